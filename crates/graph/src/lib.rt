@@ -1,0 +1,2 @@
+// The graph interface.
+pub mod graph;

@@ -1,0 +1,3 @@
+// The names and numbers that every layer shares.
+pub mod refusal;
+pub mod table;
