@@ -1,0 +1,4 @@
+pub mod Bits
+pub mod Fed
+pub mod OneBit
+pub mod Listing

@@ -1,0 +1,45 @@
+// Sets of segments, listed by rising number.
+ghost use lib.ListN.{length};
+ghost use Rattle.graph.specs.Places.{Steps};
+ghost use Rattle.belt.specs.Sets.{listed, Nexts};
+use graph::graph::Step;
+
+// A set of segments, one bit each.
+#[derive(Clone, Copy)]
+pub struct Segments {
+    pub(crate) bits: u64,
+}
+
+impl Segments {
+    // The lowest segment with the set of the others, or none of an empty set. O(1).
+    pub fn lowest(self) -> Option<Step<Segments>>
+        ensures { λ r. ⌜ Steps listed (listed self) r ⌝ }
+    {
+        if self.bits == 0 {
+            return None;
+        }
+        let others = Segments {
+            bits: self.bits & (self.bits - 1),
+        };
+        Some(Step {
+            block: self.bits.trailing_zeros(),
+            next: others,
+        })
+    }
+}
+
+pub impl Iterator for Segments as SegmentsIterator {
+    type Item = u32;
+
+    ghost steps = { λ s r t. Nexts (listed s) r (listed t) };
+
+    ghost ends = { λ _. Unit {0} };
+
+    ghost left = { λ s. length (listed s) };
+
+    fn next(&mut self) -> Option<u32> {
+        let step = self.lowest()?;
+        self.bits = step.next.bits;
+        Some(step.block)
+    }
+}
