@@ -1,5 +1,6 @@
 -- One bit of a word: how the code reads, sets and clears it, and that the others stay.
 use Prim.Native.Nat.{ℕ, zero, suc, _+_, _-_, _*_, _/_, _%_, _^_, _<_, max, min}
+use mathlib.Core.Bool.{Bool, true, false, cond}
 use mathlib.Core.Logic.{_≢_}
 use mathlib.Core.Path.{_≡_, refl, sym, _∙_, ap}
 use native.Mathlib.Omega.{arith}
@@ -15,7 +16,7 @@ half-power y = let e = pow-suc 2 y in omega arith
 even-power : (y : ℕ) → 2 ^ suc y % 2 ≡ 0
 even-power y = let e = pow-suc 2 y in omega arith
 
-or-put : (y p : ℕ) → bitOr p (2 ^ y) ≡ put y 1 p
+or-put : (y p : ℕ) → bitOr p (2 ^ y) ≡ put y true p
 unfolding put
 or-put zero p = or-step p 1 ∙ ap (λ k. k * 2 + max (p % 2) 1) (or-zero-r (p / 2)) ∙ omega arith
 or-put (suc y) p =
@@ -26,7 +27,7 @@ or-put (suc y) p =
     ∙ omega arith
 
 -- and with all of k ones but the one at y
-and-put : (k y p : ℕ) → y < k → p < 2 ^ k → bitAnd p (2 ^ k - 1 - 2 ^ y) ≡ put y 0 p
+and-put : (k y p : ℕ) → y < k → p < 2 ^ k → bitAnd p (2 ^ k - 1 - 2 ^ y) ≡ put y false p
 unfolding put
 and-put zero y p h l = absurd (omega arith)
 and-put (suc k) zero p h l =
@@ -52,10 +53,10 @@ and-put (suc k) (suc y) p h l =
     ∙ omega arith
 
 -- as the code writes them
-pub sets : (p y : ℕ) → y < 64 → bitOr p (1 * 2 ^ y % 2 ^ 64) ≡ put y 1 p
+pub sets : (p y : ℕ) → y < 64 → bitOr p (1 * 2 ^ y % 2 ^ 64) ≡ put y true p
 sets p y h = ap (bitOr p) (one-shl y 64 h) ∙ or-put y p
 
-pub clears : (p y : ℕ) → y < 64 → p < 2 ^ 64 → bitAnd p (2 ^ 64 - 1 - 1 * 2 ^ y % 2 ^ 64) ≡ put y 0 p
+pub clears : (p y : ℕ) → y < 64 → p < 2 ^ 64 → bitAnd p (2 ^ 64 - 1 - 1 * 2 ^ y % 2 ^ 64) ≡ put y false p
 clears p y h l = ap (λ k. bitAnd p (2 ^ 64 - 1 - k)) (one-shl y 64 h) ∙ and-put 64 y p h l
 
 pub reads : (p y : ℕ) → bitAnd (p / 2 ^ y) 1 ≡ bit y p
@@ -64,21 +65,26 @@ reads p y = and-mask (p / 2 ^ y) 1
 split : (q r : ℕ) → r < 2 → ((q * 2 + r) / 2 ≡ q) × ((q * 2 + r) % 2 ≡ r)
 split q r h = (omega arith, omega arith)
 
-pub bit-same : (y v p : ℕ) → v < 2 → bit y (put y v p) ≡ v
+digit : (v : Bool) → cond v 1 0 < 2
+digit true = omega arith
+digit false = omega arith
+
+pub bit-same : (y : ℕ) (v : Bool) (p : ℕ) → bit y (put y v p) ≡ cond v 1 0
 unfolding put
-bit-same zero v p h = let t = split (p / 2) v h in omega arith
-bit-same (suc y) v p h =
+bit-same zero v p = let t = split (p / 2) (cond v 1 0) (digit v) in omega arith
+bit-same (suc y) v p =
     bit-suc y (put y v (p / 2) * 2 + p % 2)
     ∙ ap (bit y) (split (put y v (p / 2)) (p % 2) (omega arith) .0)
-    ∙ bit-same y v (p / 2) h
+    ∙ bit-same y v (p / 2)
 
-pub bit-other : (y v p z : ℕ) → v < 2 → z ≢ y → bit z (put y v p) ≡ bit z p
+pub bit-other : (y : ℕ) (v : Bool) (p z : ℕ) → z ≢ y → bit z (put y v p) ≡ bit z p
 unfolding put
-bit-other zero v p zero h d = absurd (d refl)
-bit-other zero v p (suc z) h d = bit-suc z (p / 2 * 2 + v) ∙ ap (bit z) (split (p / 2) v h .0) ∙ sym (bit-suc z p)
-bit-other (suc y) v p zero h d = let t = split (put y v (p / 2)) (p % 2) (omega arith) in omega arith
-bit-other (suc y) v p (suc z) h d =
+bit-other zero v p zero d = absurd (d refl)
+bit-other zero v p (suc z) d =
+    bit-suc z (p / 2 * 2 + cond v 1 0) ∙ ap (bit z) (split (p / 2) (cond v 1 0) (digit v) .0) ∙ sym (bit-suc z p)
+bit-other (suc y) v p zero d = let t = split (put y v (p / 2)) (p % 2) (omega arith) in omega arith
+bit-other (suc y) v p (suc z) d =
     bit-suc z (put y v (p / 2) * 2 + p % 2)
     ∙ ap (bit z) (split (put y v (p / 2)) (p % 2) (omega arith) .0)
-    ∙ bit-other y v (p / 2) z h (λ e. d (ap suc e))
+    ∙ bit-other y v (p / 2) z (λ e. d (ap suc e))
     ∙ sym (bit-suc z p)

@@ -1,6 +1,6 @@
 -- An edit changes one bit, and the plan says so.
-use mathlib.Core.Bool.{cond, _&&_}
-use mathlib.Core.Logic.{_≢_, _⊎_, ⊎-elim}
+use mathlib.Core.Bool.{Bool, true, false, cond, _&&_}
+use mathlib.Core.Logic.{_⊎_, inl, inr, _≢_}
 use mathlib.Core.Path.{_≡_, refl, sym, ap, _∙_}
 use Prim.Native.Nat.{ℕ, _<_}
 use native.Mathlib.Omega.{arith}
@@ -14,13 +14,18 @@ use Rattle.belt.specs.Plan.{has, transfer, locked, row-of}
 use Rattle.belt.specs.Edits.{with-transfer, with-lock, TransferIs, LockIs}
 use Rattle.belt.proofs.Bits.{bit-same, bit-other}
 
-has-same : (b v p : ℕ) → b < 64 → v < 2 → has b (put b v p) ≡ eqb v 1
-has-same b v p h l = ap (λ t. t && eqb (bit b (put b v p)) 1) (lt-ltb b 64 h) ∙ ap (λ k. eqb k 1) (bit-same b v p l)
+digit-test : (v : Bool) → eqb (cond v 1 0) 1 ≡ v
+digit-test true = refl
+digit-test false = refl
 
-has-other : (b v p c : ℕ) → v < 2 → c ≢ b → has c (put b v p) ≡ has c p
-has-other b v p c l d = ap (λ k. ltb c 64 && eqb k 1) (bit-other b v p c l d)
+has-same : (b : ℕ) (v : Bool) (p : ℕ) → b < 64 → has b (put b v p) ≡ v
+has-same b v p h =
+    ap (λ t. t && eqb (bit b (put b v p)) 1) (lt-ltb b 64 h) ∙ ap (λ k. eqb k 1) (bit-same b v p) ∙ digit-test v
 
-module _ (plan : BeltPlan) (a b v : ℕ) (from : a < 64) (to : b < 64) (one : v < 2) (full : length (plan .rows) ≡ 64) where
+has-other : (b : ℕ) (v : Bool) (p c : ℕ) → c ≢ b → has c (put b v p) ≡ has c p
+has-other b v p c d = ap (λ k. ltb c 64 && eqb k 1) (bit-other b v p c d)
+
+module _ (plan : BeltPlan) (a b : ℕ) (v : Bool) (from : a < 64) (to : b < 64) (full : length (plan .rows) ≡ 64) where
   row-same : row-of (with-transfer a b v plan) a ≡ put b v (getD (plan .rows) a 0)
   row-same =
       let lt : a < length (plan .rows) = omega arith in
@@ -33,23 +38,26 @@ module _ (plan : BeltPlan) (a b v : ℕ) (from : a < 64) (to : b < 64) (one : v 
   row-other : (x : ℕ) → x ≢ a → row-of (with-transfer a b v plan) x ≡ row-of plan x
   row-other x d = ap (λ k. cond (ltb x 64) k 0) (getD-set-other (plan .rows) a x (put b v (getD (plan .rows) a 0)) 0 d)
 
-  pub transfer-is : TransferIs (eqb v 1) a b plan (with-transfer a b v plan)
+  other : (x y : ℕ) → (x ≡ a → y ≡ b → ⊥) → (x ≡ a) ⊎ (x ≢ a)
+      → transfer (with-transfer a b v plan) x y ≡ transfer plan x y
+  other x y d (inl e) =
+      ap (λ k. has y (row-of (with-transfer a b v plan) k)) e
+      ∙ ap (has y) row-same
+      ∙ has-other b v (getD (plan .rows) a 0) y (d e)
+      ∙ ap (has y) (sym row-here)
+      ∙ ap (λ k. has y (row-of plan k)) (sym e)
+  other x y d (inr n) = ap (has y) (row-other x n)
+
+  pub transfer-is : TransferIs v a b plan (with-transfer a b v plan)
   transfer-is = record {
-    there = ap (has b) row-same ∙ has-same b v (getD (plan .rows) a 0) to one;
-    others = λ x y d. ⊎-elim
-        (λ e. ap (λ k. has y (row-of (with-transfer a b v plan) k)) e
-        ∙ ap (has y) row-same
-        ∙ has-other b v (getD (plan .rows) a 0) y one (d e)
-        ∙ ap (has y) (sym row-here)
-        ∙ ap (λ k. has y (row-of plan k)) (sym e))
-        (λ n. ap (has y) (row-other x n))
-        (cases-eq x a);
+    there = ap (has b) row-same ∙ has-same b v (getD (plan .rows) a 0) to;
+    others = λ x y d. other x y d (cases-eq x a);
     locks = λ s. refl;
   }
 
-pub lock-is : (plan : BeltPlan) (s v : ℕ) → s < 64 → v < 2 → LockIs (eqb v 1) s plan (with-lock s v plan)
-lock-is plan s v h l = record {
-  there = has-same s v (plan .locked) h l;
-  others = λ x d. has-other s v (plan .locked) x l d;
+pub lock-is : (plan : BeltPlan) (s : ℕ) (v : Bool) → s < 64 → LockIs v s plan (with-lock s v plan)
+lock-is plan s v h = record {
+  there = has-same s v (plan .locked) h;
+  others = λ x d. has-other s v (plan .locked) x d;
   transfers = λ x y. refl;
 }

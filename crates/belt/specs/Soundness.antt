@@ -4,7 +4,7 @@
 --   segments-rising   it rises
 --   segments-within   it has segments only
 --   plan-sound        so a plan is a sound graph
---   plan-lists        and lists each row as it promises
+--   word-lists        and lists a word's segments exactly
 use mathlib.Core.Bool.{true, cond, not}
 use mathlib.Core.List.{List, [], _∷_}
 use mathlib.Core.Logic.{_↔_, _⊎_, inl, inr, ⊎-elim}
@@ -120,5 +120,5 @@ plan-sound plan = record {
   listed = λ u v e. segments-exact (row-of plan u) v .1 (and-parts (transfer plan u v) (not (locked plan v)) e .0);
 }
 
-pub plan-lists : (plan : BeltPlan) (a : ℕ) → Lists plan a (segments (row-of plan a))
-plan-lists plan a = record { exact = segments-exact (row-of plan a); rising = segments-rising (row-of plan a) }
+pub word-lists : (p : ℕ) → Lists (λ s. has s p) (segments p)
+word-lists p = record { exact = segments-exact p; rising = segments-rising p }

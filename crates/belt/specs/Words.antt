@@ -1,16 +1,17 @@
 -- Words of 64 bits as sets of segments. Assumes nothing.
 --
 --   bit y p       the bit y of the word p
---   put y v p     p with the bit y made v
+--   put y v p     p with the bit y made 1 where v holds, else 0
 --   segments p    the numbers of the bits of p that are 1, rising
+use mathlib.Core.Bool.{Bool, cond}
 use mathlib.Core.List.{List, [], _∷_}
 use Prim.Native.Nat.{ℕ, zero, suc, _+_, _*_, _/_, _%_, _^_}
 
 abbrev pub bit : ℕ → ℕ → ℕ
 bit y p = p / 2 ^ y % 2
 
-unfoldable pub put : ℕ → ℕ → ℕ → ℕ
-put zero v p = p / 2 * 2 + v
+unfoldable pub put : ℕ → Bool → ℕ → ℕ
+put zero v p = p / 2 * 2 + cond v 1 0
 put (suc y) v p = put y v (p / 2) * 2 + p % 2
 
 -- s before the list, where the bit b is 1

@@ -26,12 +26,11 @@ pub impl Graph for BeltPlan as BeltGraph {
     }
 
     fn head(&self, block: u32) -> Segments {
-        let bits = if block < SEGMENTS {
-            self.rows[block as usize]
+        if block < SEGMENTS {
+            Segments::of(self.rows[block as usize])
         } else {
-            0
-        };
-        Segments { bits }
+            Segments::of(0)
+        }
     }
 
     fn next(&self, place: Segments) -> Option<Step<Segments>> {

@@ -1,7 +1,10 @@
 // Sets of segments, listed by rising number.
+ghost use mathlib.Core.Path.{_≡_};
 ghost use lib.ListN.{length};
 ghost use Rattle.graph.specs.Places.{Steps};
-ghost use Rattle.belt.specs.Sets.{listed, Nexts};
+ghost use Rattle.belt.specs.Listing.{Lists};
+ghost use Rattle.belt.specs.Plan.{has};
+ghost use Rattle.belt.specs.Sets.{listed, set-of, Nexts};
 use graph::graph::Step;
 
 // A set of segments, one bit each.
@@ -11,8 +14,16 @@ pub struct Segments {
 }
 
 impl Segments {
+    // The segments whose bits are set in a word. O(1).
+    pub(crate) fn of(word: u64) -> Segments
+        ensures value { λ r. ⌜ r ≡ set-of word ⌝ }
+        ensures lists { λ r. ⌜ Lists (λ s. has s word) (listed r) ⌝ }
+    {
+        Segments { bits: word }
+    }
+
     // The lowest segment with the set of the others, or none of an empty set. O(1).
-    pub fn lowest(self) -> Option<Step<Segments>>
+    pub(crate) fn lowest(self) -> Option<Step<Segments>>
         ensures { λ r. ⌜ Steps listed (listed self) r ⌝ }
     {
         if self.bits == 0 {

@@ -21,10 +21,10 @@ loop-row-again c =
     elim (c .if-row-ne0 .came) [
       | then-row-ne0 w ↦
           let more = countBy-more-yes (λ p. ltb 0 (fed p)) rows i 0 lt (feeds (getD rows i 0) fits (w .if-row-ne0 .taken)) in
-          (omega (arith, w .count-is, c .loop-row .inv .0, more), omega (arith, w .count-is, c .loop-row .inv .1))
+          (omega (arith, w .feeding-is, c .loop-row .inv .0, more), omega (arith, w .feeding-is, c .loop-row .inv .1))
       | else-row-ne0 w ↦
           let more = countBy-more-no (λ p. ltb 0 (fed p)) rows i 0 lt (feeds-not (getD rows i 0) (w .if-row-ne0 .left)) in
-          (omega (arith, w .count-is, c .loop-row .inv .0, more), omega (arith, w .count-is, c .loop-row .inv .1))
+          (omega (arith, w .feeding-is, c .loop-row .inv .0, more), omega (arith, w .feeding-is, c .loop-row .inv .1))
     ]
 
 pub returns : need.returns

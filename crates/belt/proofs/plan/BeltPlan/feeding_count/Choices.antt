@@ -6,4 +6,4 @@ use Rattle.belt.proofs.plan.BeltPlan.feeding_count.Given as given
 
 -- the rows passed are counted
 abbrev pub Inv-loop-row : given.InvT-loop-row
-Inv-loop-row l = (l .count ≡ feeding (take (l .row-index) (l .self .rows))) × (l .count ≤ l .row-index)
+Inv-loop-row l = (l .feeding ≡ feeding (take (l .row-index) (l .self .rows))) × (l .feeding ≤ l .row-index)

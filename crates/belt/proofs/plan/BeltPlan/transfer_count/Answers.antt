@@ -11,8 +11,8 @@ use Rattle.belt.specs.Counts.{fed, transfers}
 use Rattle.belt.proofs.Fed.{fed-ones}
 use Rattle.belt.proofs.plan.BeltPlan.transfer_count.Needs as need
 
-pub add-count : need.add-count
-add-count c =
+pub add-transfers : need.add-transfers
+add-transfers c =
     let row = getD (c .args .self .now .rows) (c .loop-row .row-index) 0 in
     let few = ones-le 64 row (c .loop-row-test .element-fits .fits) in
     omega (arith, c .loop-row .inv .1)

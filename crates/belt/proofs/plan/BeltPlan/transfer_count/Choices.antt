@@ -6,4 +6,4 @@ use Rattle.belt.proofs.plan.BeltPlan.transfer_count.Given as given
 
 -- the transfers of the rows passed are counted
 abbrev pub Inv-loop-row : given.InvT-loop-row
-Inv-loop-row l = (l .count ≡ transfers (take (l .row-index) (l .self .rows))) × (l .count ≤ 64 * l .row-index)
+Inv-loop-row l = (l .transfers ≡ transfers (take (l .row-index) (l .self .rows))) × (l .transfers ≤ 64 * l .row-index)

@@ -1,0 +1,3 @@
+pub mod Words
+pub mod Cursor
+pub mod Numbers

@@ -1,0 +1,3 @@
+// The words and numbers of a script's line.
+pub mod number;
+pub mod words;
