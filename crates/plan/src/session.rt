@@ -98,10 +98,8 @@ pub impl fmt::Display for Summary as SummaryDisplay {
         let feeding = self.feeding;
         let transfers = self.transfers;
         let locked = Answer::Listed(self.locked);
-        writeln!(
-            f,
-            "= {calls} calls, {refused} refused, {unknown} lines that are no calls"
-        )?;
+        writeln!(f, "= {calls} calls, {refused} refused")?;
+        writeln!(f, "= {unknown} lines were no calls")?;
         writeln!(
             f,
             "= {feeding} segments feed others over {transfers} transfers"

@@ -4,8 +4,8 @@ ghost use Rattle.script.specs.Cursor.{left};
 ghost use Rattle.script.specs.Words.{words};
 ghost use Rattle.plan_script.specs.Lines.{call-of, call-named};
 use crate::call::PlanCall;
-use script::number::only_number;
-use script::number::two_numbers;
+use script::arguments::only_number;
+use script::arguments::two_numbers;
 use script::words::Words;
 use script::words::WordsIterator;
 
