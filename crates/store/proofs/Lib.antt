@@ -1,0 +1,3 @@
+pub mod Newest
+pub mod Linking
+pub mod Tables
