@@ -73,6 +73,7 @@ impl EdgeStore {
         requires room { ⌜ length (edges-of (now self)) < 2048 ⌝ }
         ensures nodes { λ _. ⌜ nodes-of (now (self .exit)) ≡ nodes-of (now (self .entry)) ⌝ }
         ensures edges { λ _. ⌜ edges-of (now (self .exit)) ≡ edges-of (now (self .entry)) ++ record { source = source; target = target; kind = kind } ∷ [] ⌝ }
+        ensures count { λ _. ⌜ length (edges-of (now (self .exit))) ≡ length (edges-of (now (self .entry))) + 1 ⌝ }
     {
         let at = self.links.len();
         let next_outgoing = self.nodes[source as usize].first_outgoing;

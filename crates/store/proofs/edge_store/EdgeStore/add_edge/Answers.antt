@@ -4,10 +4,11 @@ use mathlib.Core.Path.{_≡_, refl, sym, ap, subst, _∙_}
 use Prim.Native.Nat.{_<_}
 use native.Mathlib.Omega.{arith}
 use lib.ListN.{length, set}
-use Rattle.std.proofs.shelf.Lists.{length-set}
+use Rattle.std.proofs.shelf.Lists.{length-set, length-push}
 use Rattle.std.specs.declared.option.Option.the-variants.{Some}
 use Rattle.kinds.specs.declared.edge.Edge.{Edge}
 use Rattle.store.specs.Links.{code, edges-in, Firsts, Nexts, Within}
+use Rattle.store.specs.View.{edges-of}
 use Rattle.store.specs.declared.direction.Direction.{Direction}
 use Rattle.store.specs.declared.direction.Direction.the-variants.{Outgoing, Incoming}
 use Rattle.store.specs.declared.link.Link.{Link}
@@ -68,4 +69,7 @@ ghost-self c =
     )
 
 pub returns : need.returns
-returns c = record { nodes = search needs; edges = ap edges-in (c .push-reserved .ensures .items) ∙ edges-push (c .args .self .now .links .items) _ }
+returns c =
+    let es = edges-of (c .args .self .now) in
+    let e = ap edges-in (c .push-reserved .ensures .items) ∙ edges-push (c .args .self .now .links .items) _ in
+    record { nodes = search needs; edges = e; count = ap length e ∙ length-push es _ }

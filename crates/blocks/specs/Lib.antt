@@ -1,0 +1,5 @@
+pub mod Blocks
+pub mod Highest
+pub mod Tables
+pub mod TablesView
+pub mod View
