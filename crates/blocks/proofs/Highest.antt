@@ -42,7 +42,8 @@ code-known None n l = λ z. z
 code-known (Some b) n l = omega arith
 
 -- what holds of the highest holds of the last
-pub last-under : {X : Type 0} (f : X → ℕ) (ys xs : List X) (x : X) (n : ℕ) → ys ≡ xs → 0 < length ys → x ≡ getD ys (length ys - 1) x → highest f xs ≤ n → f x ≤ n
+pub last-under : {X : Type 0} (f : X → ℕ) (ys xs : List X) (x : X) (n : ℕ) → ys ≡ xs → 0 < length ys → x ≡ getD ys (length ys - 1) x → highest f xs ≤ n
+    → f x ≤ n
 last-under f ys xs x n e l g h =
     let lt : length ys - 1 < length ys = omega arith in
     let a = highest-at f ys (length ys - 1) x lt in

@@ -36,7 +36,8 @@ mark-read (b ∷ bs) zero x l g = ap (λ (y : BasicBlock). y .unreachable) g
 mark-read (b ∷ bs) (suc i) x l g = mark-read bs i x (omega arith) g
 
 -- a write that leaves the mark
-pub marks-kept : (bs : List BasicBlock) (i : ℕ) (b old : BasicBlock) → i < length bs → old ≡ getD bs i old → b .unreachable ≡ old .unreachable → marks-in (set bs i b) ≡ marks-in bs
+pub marks-kept : (bs : List BasicBlock) (i : ℕ) (b old : BasicBlock) → i < length bs → old ≡ getD bs i old → b .unreachable ≡ old .unreachable
+    → marks-in (set bs i b) ≡ marks-in bs
 marks-kept bs i b old l g q = marks-set bs i b ∙ ap (set (marks-in bs) i) (q ∙ mark-read bs i old l g) ∙ set-getD (marks-in bs) i false
 
 or-false : (a : Bool) → (a || false) ≡ a
@@ -73,7 +74,8 @@ holds-none b (i ∷ is) h =
     rw t (holds-none b is (λ k x lt. h (suc k) x (omega arith)))
 
 -- one block more
-pub flagged-block : (bs : List BasicBlock) (is : List BlockInstruction) (b : BasicBlock) → b .«holds_unreachable» ≡ false → Inside bs is → Flagged bs is → Flagged (bs ++ b ∷ []) is
+pub flagged-block : (bs : List BasicBlock) (is : List BlockInstruction) (b : BasicBlock) → b .«holds_unreachable» ≡ false → Inside bs is → Flagged bs is
+    → Flagged (bs ++ b ∷ []) is
 flagged-block bs is b z within h k x l =
     elim (cases-eq k (length bs)) [
       | inl q ↦ (let n = holds-none k is (λ j y lt w. let m = within j y lt in omega arith) in
@@ -86,7 +88,8 @@ pub inside-block : (bs : List BasicBlock) (is : List BlockInstruction) (b : Basi
 inside-block bs is b within k x l = let h = within k x l in let m = length-push bs b in omega arith
 
 -- one instruction more
-pub inside-instruction : (bs cs : List BasicBlock) (is : List BlockInstruction) (i : BlockInstruction) → length cs ≡ length bs → i .block < length bs → Inside bs is → Inside cs (is ++ i ∷ [])
+pub inside-instruction : (bs cs : List BasicBlock) (is : List BlockInstruction) (i : BlockInstruction) → length cs ≡ length bs → i .block < length bs
+    → Inside bs is → Inside cs (is ++ i ∷ [])
 inside-instruction bs cs is i e h within k x l =
     elim (cases-eq k (length is)) [
       | inl p ↦ (let g = getD-push is i x k (sym p) in rw (g, e) h)
@@ -94,12 +97,14 @@ inside-instruction bs cs is i e h within k x l =
     ]
 
 -- one that is not Unreachable leaves the flags
-pub flagged-other : (bs : List BasicBlock) (is : List BlockInstruction) (i : BlockInstruction) → is-unreachable (i .instruction .kind) ≡ false → Flagged bs is → Flagged bs (is ++ i ∷ [])
+pub flagged-other : (bs : List BasicBlock) (is : List BlockInstruction) (i : BlockInstruction) → is-unreachable (i .instruction .kind) ≡ false → Flagged bs is
+    → Flagged bs (is ++ i ∷ [])
 flagged-other bs is i z h k x l =
     h k x l ∙ sym (holds-push k is i ∙ rw z (and-false (holds-unreachable k is) (eqb (i .block) k)))
 
 -- one that is sets its block's flag
-pub flagged-unreachable : (bs : List BasicBlock) (is : List BlockInstruction) (i : BlockInstruction) (b : BasicBlock) → is-unreachable (i .instruction .kind) ≡ true → b .«holds_unreachable» ≡ true → Flagged bs is → Flagged (set bs (i .block) b) (is ++ i ∷ [])
+pub flagged-unreachable : (bs : List BasicBlock) (is : List BlockInstruction) (i : BlockInstruction) (b : BasicBlock)
+    → is-unreachable (i .instruction .kind) ≡ true → b .«holds_unreachable» ≡ true → Flagged bs is → Flagged (set bs (i .block) b) (is ++ i ∷ [])
 flagged-unreachable bs is i b z t h k x l =
     let lt : k < length bs = simp length-set at l in
     elim (cases-eq k (i .block)) [

@@ -1,11 +1,11 @@
 -- The rule by which an edge sets the mark of its target, on the ways where the mark stays.
-use mathlib.Core.Bool.{Bool, true, false, cond}
+use mathlib.Core.Bool.{Bool, true, false}
 use mathlib.Core.List.{List}
 use mathlib.Core.Path.{_≡_, refl, sym, ap, _∙_}
 use Prim.Native.Nat.{ℕ}
 use lib.ListN.{getD, set}
 use Rattle.std.proofs.shelf.Lists.{set-getD}
-use Rattle.blocks.specs.Blocks.{GraphState, mark-after, taken-from, never-taken, target-mark, target-marked, holds-unreachable, mark-set}
+use Rattle.blocks.specs.Blocks.{GraphState, mark-after, taken-from, target-mark, target-marked, holds-unreachable, mark-set}
 use Rattle.kinds.specs.declared.edge.EdgeType.{EdgeType}
 use Rattle.kinds.specs.declared.edge.EdgeType.the-variants.{Jump, Normal, Backedge, NewFunction, Finalize, Error, Unreachable, Join}
 use Rattle.store.specs.Edges.{has-edge}

@@ -1,6 +1,6 @@
 -- What a new node and a new edge leave of the ties between the tables.
 use mathlib.Core.List.{List, [], _∷_, _++_}
-use mathlib.Core.Logic.{_≢_, inl, inr}
+use mathlib.Core.Logic.{inl, inr}
 use mathlib.Core.Path.{_≡_, refl, sym, ap, subst, _∙_}
 use Prim.Native.Nat.{ℕ, zero, suc, _<_, _≤_}
 use native.Mathlib.Omega.{arith}
@@ -28,7 +28,8 @@ getD-edges (l ∷ ls) zero x = refl
 getD-edges (l ∷ ls) (suc k) x = getD-edges ls k x
 
 -- some link, from which the default of any edge can be read
-edge-within : (d : Direction) (ns : List Node) (ls : List Link) → Within d ns ls → (k : ℕ) (x : Edge) → k < length (edges-in ls) → block-at d (getD (edges-in ls) k x) < length ns
+edge-within : (d : Direction) (ns : List Node) (ls : List Link) → Within d ns ls → (k : ℕ) (x : Edge) → k < length (edges-in ls)
+    → block-at d (getD (edges-in ls) k x) < length ns
 edge-within d ns [] w k x lt = absurd (omega arith)
 edge-within d ns (l ∷ ls) w zero x lt = w 0 l (omega arith)
 edge-within d ns (l ∷ ls) w (suc k) x lt = edge-within d ns ls (λ j y h. w (suc j) y (omega arith)) k x (omega arith)
@@ -38,7 +39,8 @@ pub newest-outside : (d : Direction) (ns : List Node) (ls : List Link) (b : ℕ)
 newest-outside d ns ls b w le = newest-none d b (edges-in ls) (λ k x lt e. let h = edge-within d ns ls w k x lt in omega arith)
 
 -- one node more, with no edges
-pub firsts-node : (d : Direction) (ns : List Node) (ls : List Link) (n : Node) → first-of d n ≡ None → Within d ns ls → Firsts d ns (edges-in ls) → Firsts d (ns ++ n ∷ []) (edges-in ls)
+pub firsts-node : (d : Direction) (ns : List Node) (ls : List Link) (n : Node) → first-of d n ≡ None → Within d ns ls → Firsts d ns (edges-in ls)
+    → Firsts d (ns ++ n ∷ []) (edges-in ls)
 firsts-node d ns ls n e w h b x lt =
     elim (cases-eq b (length ns)) [
       | inl q ↦ (let le : length ns ≤ b = omega arith in
@@ -51,7 +53,8 @@ pub within-node : (d : Direction) (ns : List Node) (ls : List Link) (n : Node) �
 within-node d ns ls n w k x lt = let h = w k x lt in let m = length-push ns n in omega arith
 
 -- the new edge e, the newest at its block
-pub firsts-edge : (d : Direction) (ns : List Node) (es : List Edge) (e : Edge) (n : Node) → first-of d n ≡ Some (length es) → Firsts d ns es → Firsts d (set ns (block-at d e) n) (es ++ e ∷ [])
+pub firsts-edge : (d : Direction) (ns : List Node) (es : List Edge) (e : Edge) (n : Node) → first-of d n ≡ Some (length es) → Firsts d ns es
+    → Firsts d (set ns (block-at d e) n) (es ++ e ∷ [])
 firsts-edge d ns es e n q h b x l =
     let lt : b < length ns = simp length-set at l in
     elim (cases-eq b (block-at d e)) [
@@ -61,7 +64,8 @@ firsts-edge d ns es e n q h b x l =
     ]
 
 -- a write to a node that leaves its first edge in this direction
-pub firsts-kept : (d : Direction) (ns : List Node) (es : List Edge) (i : ℕ) (n old : Node) → old ≡ getD ns i old → first-of d n ≡ first-of d old → Firsts d ns es → Firsts d (set ns i n) es
+pub firsts-kept : (d : Direction) (ns : List Node) (es : List Edge) (i : ℕ) (n old : Node) → old ≡ getD ns i old → first-of d n ≡ first-of d old
+    → Firsts d ns es → Firsts d (set ns i n) es
 firsts-kept d ns es i n old g q h b x l =
     let lt : b < length ns = simp length-set at l in
     elim (cases-eq b i) [
@@ -84,15 +88,18 @@ take-edges ls l k le =
     let m : k ≤ length (edges-in ls) = omega (arith, length-edges ls) in
     ap (take k) (edges-push ls l) ∙ take-append-le k (edges-in ls) (l .edge ∷ []) m
 
-pub nexts-edge : (d : Direction) (ls : List Link) (l : Link) → code (next-of d l) ≡ code (newest d (block-at d (l .edge)) (edges-in ls)) → Nexts d ls → Nexts d (ls ++ l ∷ [])
+pub nexts-edge : (d : Direction) (ls : List Link) (l : Link) → code (next-of d l) ≡ code (newest d (block-at d (l .edge)) (edges-in ls)) → Nexts d ls
+    → Nexts d (ls ++ l ∷ [])
 nexts-edge d ls l q h =
     let P : ℕ → Link → Type 0 = λ k y. code (next-of d y) ≡ code (newest d (block-at d (y .edge)) (take k (edges-in (ls ++ l ∷ [])))) in
-    let all : take (length ls) (edges-in (ls ++ l ∷ [])) ≡ edges-in ls = ap (take (length ls)) (edges-push ls l) ∙ take-at (edges-in ls) (l .edge ∷ []) (length ls) (length-edges ls) in
+    let all : take (length ls) (edges-in (ls ++ l ∷ [])) ≡ edges-in ls = ap (take (length ls)) (edges-push ls l)
+    ∙ take-at (edges-in ls) (l .edge ∷ []) (length ls) (length-edges ls) in
     at-push P ls l
     (q ∙ ap (λ es. code (newest d (block-at d (l .edge)) es)) (sym all))
     (λ k x lt. let le : k ≤ length ls = omega arith in h k x lt ∙ ap (λ es. code (newest d (block-at d (getD ls k x .edge)) es)) (sym (take-edges ls l k le)))
 
-pub within-edge : (d : Direction) (ns ms : List Node) (ls : List Link) (l : Link) → length ms ≡ length ns → block-at d (l .edge) < length ns → Within d ns ls → Within d ms (ls ++ l ∷ [])
+pub within-edge : (d : Direction) (ns ms : List Node) (ls : List Link) (l : Link) → length ms ≡ length ns → block-at d (l .edge) < length ns → Within d ns ls
+    → Within d ms (ls ++ l ∷ [])
 within-edge d ns ms ls l e h w =
     let P : ℕ → Link → Type 0 = λ k y. block-at d (y .edge) < length ms in
     at-push P ls l (omega arith) (λ k x lt. let z = w k x lt in omega arith)

@@ -119,7 +119,8 @@ listed-some d b es k x =
     ]) es
 
 -- what the place of an edge stands for
-rest-at : (d : Direction) (es : List Edge) (k : ℕ) (x : Edge) → k < length es → rest d es (Some k) ≡ getD es k x ∷ listed d (block-at d (getD es k x)) (take k es)
+rest-at : (d : Direction) (es : List Edge) (k : ℕ) (x : Edge) → k < length es
+    → rest d es (Some k) ≡ getD es k x ∷ listed d (block-at d (getD es k x)) (take k es)
 rest-at d es k x lt =
     ap (λ o. beside d o (take (suc k) es)) (nth-getD es k x lt)
     ∙ ap (listed d (block-at d (getD es k x))) (ap (λ n. take n es) (sym (add-one k)) ∙ take-more es k x lt)
@@ -145,7 +146,8 @@ newest-has d b [] = ap isSome (newest-nil d b)
 newest-has d b (e ∷ es) = has-some d b (e ∷ es) (newest d b (e ∷ es)) e refl
 
 -- a place in the first edges stands for the same in all of them
-rest-cut : (d : Direction) (b k : ℕ) (es : List Edge) (o : Option ℕ) (x : Edge) → k ≤ length es → o ≡ newest d b (take k es) → rest d es o ≡ rest d (take k es) o
+rest-cut : (d : Direction) (b k : ℕ) (es : List Edge) (o : Option ℕ) (x : Edge) → k ≤ length es → o ≡ newest d b (take k es)
+    → rest d es o ≡ rest d (take k es) o
 rest-cut d b k es None x le h = refl
 rest-cut d b k es (Some j) x le h =
     let f = listed-some d b (take k es) j x (sym h) in

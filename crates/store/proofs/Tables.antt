@@ -30,11 +30,13 @@ within Outgoing s = s .sources
 within Incoming s = s .targets
 
 -- the first edge of the node n, which stands at b
-pub first-newest : (d : Direction) (s : EdgeStore) (b : ℕ) (n : Node) → b < length (vec-items (s .nodes)) → n ≡ getD (vec-items (s .nodes)) b n → first-of d n ≡ newest d b (edges-of s)
+pub first-newest : (d : Direction) (s : EdgeStore) (b : ℕ) (n : Node) → b < length (vec-items (s .nodes)) → n ≡ getD (vec-items (s .nodes)) b n
+    → first-of d n ≡ newest d b (edges-of s)
 first-newest d s b n lt g = code-same _ _ (ap (λ x. code (first-of d x)) g ∙ firsts d s b n lt)
 
 -- a step from the link l, which stands at k
-pub link-step : (d : Direction) (s : EdgeStore) (k : ℕ) (l : Link) → k < length (vec-items (s .links)) → l ≡ getD (vec-items (s .links)) k l → rest d (edges-of s) (Some k) ≡ l .edge ∷ rest d (edges-of s) (next-of d l)
+pub link-step : (d : Direction) (s : EdgeStore) (k : ℕ) (l : Link) → k < length (vec-items (s .links)) → l ≡ getD (vec-items (s .links)) k l
+    → rest d (edges-of s) (Some k) ≡ l .edge ∷ rest d (edges-of s) (next-of d l)
 link-step d s k l lt g =
     let ls = vec-items (s .links) in
     let e : getD (edges-in ls) k (l .edge) ≡ l .edge = getD-edges ls k l ∙ ap (λ (x : Link). x .edge) (sym g) in

@@ -1,6 +1,5 @@
 // What the builder does to its graph, each call with its room tried before. All of it is for the layers above.
 ghost use mathlib.Core.Bool.{true, false};
-ghost use mathlib.Core.List.{[]};
 ghost use mathlib.Core.Path.{_≡_};
 ghost use Prim.Native.Nat.{_<_};
 ghost use lib.ListN.{length};

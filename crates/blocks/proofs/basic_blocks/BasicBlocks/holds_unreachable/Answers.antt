@@ -9,4 +9,5 @@ index-requires c κs = block-index (c .args .self .now) (c .args .block) (c .pre
 pub returns : need.returns
 returns c =
     let t = c .args .self .now in
-    ap (λ (x : BasicBlock). x .«holds_unreachable») (c .index .ensures) ∙ t .flagged (c .args .block) (c .index .result .now) (block-within t (c .args .block) (c .pre))
+    ap (λ (x : BasicBlock). x .«holds_unreachable») (c .index .ensures)
+    ∙ t .flagged (c .args .block) (c .index .result .now) (block-within t (c .args .block) (c .pre))

@@ -71,4 +71,9 @@ returns-in-Unreachable c =
     }
 
 pub returns-in-rest : need.returns-in-rest
-returns-in-rest c = record { marks = refl; instructions = c .push-reserved .ensures .items; count = pushed (c .args .self .now) _ _ (c .push-reserved .ensures .items) }
+returns-in-rest c = record {
+  marks = refl;
+  instructions = c .push-reserved .ensures .items;
+  count =
+      pushed (c .args .self .now) _ _ (c .push-reserved .ensures .items);
+}

@@ -1,4 +1,3 @@
-use mathlib.Core.Path.{_≡_}
 use native.Mathlib.Omega.{arith}
 use Rattle.blocks.specs.Blocks.{GraphState, Grown}
 use Rattle.blocks.specs.View.{graph-of}

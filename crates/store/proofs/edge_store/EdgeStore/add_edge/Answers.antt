@@ -54,9 +54,11 @@ ghost-self c =
           (
             subst (F Incoming) grown (firsts-edge Incoming half es e m (ap Some at) kept),
             (
-              subst (N Outgoing) (sym q) (nexts-edge Outgoing ls _ (ap code (first-newest Outgoing s a (c .index .result .now) from (c .index .ensures))) (s .«nexts_outgoing»)),
+              subst (N Outgoing) (sym q)
+                  (nexts-edge Outgoing ls _ (ap code (first-newest Outgoing s a (c .index .result .now) from (c .index .ensures))) (s .«nexts_outgoing»)),
               (
-                subst (N Incoming) (sym q) (nexts-edge Incoming ls _ (ap code (first-newest Incoming s b (c .index-2 .result .now) to (c .index-2 .ensures))) (s .«nexts_incoming»)),
+                subst (N Incoming) (sym q)
+                    (nexts-edge Incoming ls _ (ap code (first-newest Incoming s b (c .index-2 .result .now) to (c .index-2 .ensures))) (s .«nexts_incoming»)),
                 (
                   subst (W Outgoing) (sym q) (within-edge Outgoing ns whole ls _ wide from (s .sources)),
                   (subst (W Incoming) (sym q) (within-edge Incoming ns whole ls _ wide to (s .targets)), tt),
