@@ -1,0 +1,5 @@
+pub mod Bounds
+pub mod Drawing
+pub mod Labels
+pub mod Views
+pub mod Waiting

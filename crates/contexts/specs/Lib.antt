@@ -1,0 +1,3 @@
+pub mod Contexts
+pub mod Tables
+pub mod View

@@ -1,0 +1,3 @@
+// The open contexts, and the breaks and continues that wait in them.
+pub mod ctx;
+pub mod ctx_stack;
