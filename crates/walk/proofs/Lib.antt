@@ -1,0 +1,16 @@
+pub mod Marks
+pub mod Bytes
+pub mod Cases
+pub mod Ways
+pub mod Steady
+pub mod Induct
+pub mod Starts
+pub mod Depth
+pub mod Numbers
+pub mod Spans
+pub mod Seek
+pub mod Least
+pub mod Reach
+pub mod Cycle
+pub mod Turns
+pub mod SameStop

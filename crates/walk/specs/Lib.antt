@@ -1,0 +1,13 @@
+pub mod Marks
+pub mod Walk
+pub mod OpenBlocks
+pub mod Ways
+pub mod Numbers
+pub mod NumbersOnce
+pub mod Spans
+pub mod SpansNested
+pub mod Reach
+pub mod ReachIsDistance
+pub mod Cycle
+pub mod CycleIsWayBack
+pub mod DepthSuffices
