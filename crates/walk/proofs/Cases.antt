@@ -9,7 +9,8 @@ use Rattle.walk.specs.declared.event.Control.{Control}
 use Rattle.walk.specs.declared.event.Control.the-variants.{Continue, Break}
 use Rattle.walk.specs.declared.event.DfsEvent.{DfsEvent}
 use Rattle.walk.specs.declared.event.DfsEvent.the-variants.{TreeEdge, BackEdge, CrossForwardEdge}
-use Rattle.walk.specs.Marks.{Mark, New, Open, Done}
+use Rattle.walk.specs.declared.mark.Mark.{Mark}
+use Rattle.walk.specs.declared.mark.Mark.the-variants.{New, Open, Done}
 use Rattle.walk.proofs.Marks.{Seen}
 
 pub new-open : (m : Mark) → m ≡ New → m ≡ Open → ⊥

@@ -10,9 +10,10 @@ use Rattle.std.specs.declared.option.Option.the-variants.{None, Some}
 use Rattle.std.specs.Options.{isSome}
 use Rattle.graph.specs.Meaning.{Sound, Meaning}
 use Rattle.walk.specs.declared.event.Control.the-variants.{Continue, Break}
+use Rattle.walk.specs.declared.mark.Mark.{Mark}
+use Rattle.walk.specs.declared.mark.Mark.the-variants.{New, Open, Done}
 use Rattle.walk.specs.Cycle.{cycle-reply, cycle-visitor, cyclic}
 use Rattle.walk.specs.CycleIsWayBack.{CycleIsWayBack}
-use Rattle.walk.specs.Marks.{Mark, New, Open, Done}
 use Rattle.walk.specs.Walk.{State, walk}
 use Rattle.walk.proofs.Cases.{event-of}
 use Rattle.walk.proofs.Marks.{eqb-same, mark-as-same}

@@ -10,7 +10,9 @@ use Rattle.graph.specs.Meaning.{Sound, Member, Meaning}
 use Rattle.walk.specs.declared.event.Control.{Control}
 use Rattle.walk.specs.declared.event.Control.the-variants.{Continue, Prune, Break}
 use Rattle.walk.specs.declared.event.DfsEvent.the-variants.{Discover, TreeEdge, BackEdge, CrossForwardEdge}
-use Rattle.walk.specs.Marks.{Mark, New, Open, Done, mark-as, unseen}
+use Rattle.walk.specs.declared.mark.Mark.{Mark}
+use Rattle.walk.specs.declared.mark.Mark.the-variants.{New, Open, Done}
+use Rattle.walk.specs.Marks.{mark-as, unseen}
 use Rattle.walk.specs.Walk.{Visitor, State, stop-of, report, discover, finish, close, edge, scan, opening, if-continue, unless-ended, read-marked}
 use Rattle.walk.proofs.Marks.{Grow, grow-refl, grow-trans, grow-mark-as, unseen-grow, unseen-mark-as}
 
@@ -23,7 +25,8 @@ module _ {S B : Type 0} (V : Visitor S B) (G : Meaning) where
   Stays Prune = Unit {0}
   Stays (Break b) = Unit {0}
 
-  pub record Laws (P : ℕ → State S B → State S B → Type 0) (E : ℕ → ℕ → State S B → State S B → Type 0) (Q : ℕ → List ℕ → State S B → State S B → Type 0) : Type 0 where
+  pub record Laws (P : ℕ → State S B → State S B → Type 0) (E : ℕ → ℕ → State S B → State S B → Type 0)
+      (Q : ℕ → List ℕ → State S B → State S B → Type 0) : Type 0 where
     pub open-halt : (u : ℕ) (s : State S B) → Running s → s .mark u ≡ New → u < G .size → (b : B)
         → V .reply (s .visitor) (Discover u (s .time)) ≡ Break b → P u s (discover V u s)
     pub open-prune : (u : ℕ) (s : State S B) → Running s → s .mark u ≡ New → u < G .size → V .reply (s .visitor) (Discover u (s .time)) ≡ Prune
@@ -54,7 +57,8 @@ module _ {S B : Type 0} (V : Visitor S B) (G : Meaning) where
       → edge V go u v s ≡ read-marked V go u v m s
   edge-marked go u v m s r e = ap (λ o. unless-ended o s (read-marked V go u v (s .mark v) s)) r ∙ ap (λ k. read-marked V go u v k s) e
 
-  module _ (P : ℕ → State S B → State S B → Type 0) (E : ℕ → ℕ → State S B → State S B → Type 0) (Q : ℕ → List ℕ → State S B → State S B → Type 0) (L : Laws P E Q) (W : Sound G) where
+  module _ (P : ℕ → State S B → State S B → Type 0) (E : ℕ → ℕ → State S B → State S B → Type 0) (Q : ℕ → List ℕ → State S B → State S B → Type 0)
+      (L : Laws P E Q) (W : Sound G) where
     -- what is known of an opener that may go f deep
     abbrev Opener : ℕ → (ℕ → State S B → State S B) → Type 0
     Opener f go =
@@ -127,7 +131,8 @@ module _ {S B : Type 0} (V : Visitor S B) (G : Meaning) where
             subst
             (λ o. P u s (unless-ended o (discover V u s) (finish V u (discover V u s))) × Grow (s .mark) (unless-ended o (discover V u s) (finish V u (discover V u s)) .mark))
             (sym (ap stop-of e))
-            (L .open-prune u s r m l e, grow-trans (s .mark) (mark-as u Open (s .mark)) (mark-as u Done (mark-as u Open (s .mark))) grown (grow-mark-as u Done (mark-as u Open (s .mark)) tt))
+            (L .open-prune u s r m l e,
+             grow-trans (s .mark) (mark-as u Open (s .mark)) (mark-as u Done (mark-as u Open (s .mark))) grown (grow-mark-as u Done (mark-as u Open (s .mark)) tt))
         by (Break b) e H =
             subst
             (λ o. P u s (unless-ended o (discover V u s) (finish V u (discover V u s))) × Grow (s .mark) (unless-ended o (discover V u s) (finish V u (discover V u s)) .mark))

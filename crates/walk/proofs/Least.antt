@@ -24,7 +24,8 @@ module _ (P : ℕ → Type 0) (d : (k : ℕ) → Dec (P k)) where
       zero-plus : (k : ℕ) → 0 + k ≡ k
       zero-plus k = omega arith
 
-module _ (out : ℕ → List ℕ) (step : ℕ → ℕ → Type 0) (listed : (a b : ℕ) → step a b → Member b (out a)) (dec : (a b : ℕ) → Member b (out a) → Dec (step a b)) where
+module _ (out : ℕ → List ℕ) (step : ℕ → ℕ → Type 0) (listed : (a b : ℕ) → step a b → Member b (out a))
+    (dec : (a b : ℕ) → Member b (out a) → Dec (step a b)) where
   first : {a k b : ℕ} → Way step a (suc k) b → (x : ℕ) × step a x × Way step x k b
   first (on {v = x} s w) = (x, s, w)
 
@@ -33,10 +34,10 @@ module _ (out : ℕ → List ℕ) (step : ℕ → ℕ → Type 0) (listed : (a b
   end (on s w) e = absurd (omega arith)
 
   -- whether Some block of the list is a first step of a way of k more
-  Some-of : (k a b : ℕ) → ((x : ℕ) → Dec (Way step x k b)) → (vs : List ℕ) → ((v : ℕ) → Member v vs → Member v (out a))
+  any-of : (k a b : ℕ) → ((x : ℕ) → Dec (Way step x k b)) → (vs : List ℕ) → ((v : ℕ) → Member v vs → Member v (out a))
       → Dec ((x : ℕ) × Member x vs × step a x × Way step x k b)
-  Some-of k a b d [] i = no (λ h. absurd (h .1))
-  Some-of k a b d (v ∷ vs) i = by (dec a v (i v (inl refl))) (d v) (Some-of k a b d vs (λ w j. i w (inr j)))
+  any-of k a b d [] i = no (λ h. absurd (h .1))
+  any-of k a b d (v ∷ vs) i = by (dec a v (i v (inl refl))) (d v) (any-of k a b d vs (λ w j. i w (inr j)))
     where
       other : (step a v × Way step v k b → ⊥) → ((x : ℕ) × Member x vs × step a x × Way step x k b → ⊥)
           → (x : ℕ) × Member x (v ∷ vs) × step a x × Way step x k b → ⊥
@@ -58,7 +59,7 @@ module _ (out : ℕ → List ℕ) (step : ℕ → ℕ → Type 0) (listed : (a b
   way? zero a b = elim (ℕ-discrete a b) [ yes e ↦ yes (subst (λ x. Way step a zero x) e here) | no n ↦ no (λ w. n (end w refl)) ]
   way? (suc k) a b =
       elim
-      (Some-of k a b (λ x. way? k x b) (out a) (λ v i. i)) [ yes h ↦ yes (on (h .2) (h .3)) | no n ↦ no (λ w. let f = first w in n (f .0, listed a (f .0) (f .1), f .1, f .2)) ]
+      (any-of k a b (λ x. way? k x b) (out a) (λ v i. i)) [ yes h ↦ yes (on (h .2) (h .3)) | no n ↦ no (λ w. let f = first w in n (f .0, listed a (f .0) (f .1), f .1, f .2)) ]
 
   pub distance : (a b k : ℕ) → Way step a k b → (d : ℕ) × Distance step a b d
   distance a b k w = let l = least (λ j. Way step a j b) (λ j. way? j a b) k w in (l .0, record { way = l .1; fewest = l .2 })

@@ -7,7 +7,9 @@ use mathlib.Core.Logic.{_⊎_, inl, inr, _≢_}
 use mathlib.Core.Path.{_≡_, refl, sym, _∙_, ap, subst}
 use Prim.Native.Nat.{ℕ, zero, suc, _+_, _≤_, _<_}
 use lib.Dec.{T, eqb, eqb→eq, eqb-refl}
-use Rattle.walk.specs.Marks.{Mark, New, Open, Done, mark-as, one-if-new, unseen}
+use Rattle.walk.specs.declared.mark.Mark.{Mark}
+use Rattle.walk.specs.declared.mark.Mark.the-variants.{New, Open, Done}
+use Rattle.walk.specs.Marks.{mark-as, one-if-new, unseen}
 
 abbrev pub Seen : Mark → Type 0
 Seen New = ⊥

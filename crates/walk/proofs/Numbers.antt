@@ -10,7 +10,9 @@ use Rattle.std.specs.declared.option.Option.the-variants.{None}
 use Rattle.graph.specs.Meaning.{Meaning, Sound}
 use Rattle.walk.specs.declared.event.DfsEvent.{DfsEvent}
 use Rattle.walk.specs.declared.event.DfsEvent.the-variants.{Discover, TreeEdge, BackEdge, CrossForwardEdge, Finish}
-use Rattle.walk.specs.Marks.{Mark, New, Open, Done, mark-as}
+use Rattle.walk.specs.declared.mark.Mark.{Mark}
+use Rattle.walk.specs.declared.mark.Mark.the-variants.{New, Open, Done}
+use Rattle.walk.specs.Marks.{mark-as}
 use Rattle.walk.specs.Numbers.{count, found, numbers}
 use Rattle.walk.specs.NumbersOnce.{Numbered}
 use Rattle.walk.specs.Walk.{Visitor, Report, State, report, discover, finish, begin, walk}

@@ -12,7 +12,8 @@ use Rattle.std.specs.Options.{valueOr}
 use Rattle.graph.specs.Meaning.{Sound, Member, Meaning}
 use Rattle.walk.specs.declared.event.Control.{Control}
 use Rattle.walk.specs.declared.event.Control.the-variants.{Continue, Prune, Break}
-use Rattle.walk.specs.Marks.{Mark, New, Open, Done}
+use Rattle.walk.specs.declared.mark.Mark.{Mark}
+use Rattle.walk.specs.declared.mark.Mark.the-variants.{New, Open, Done}
 use Rattle.walk.specs.Reach.{reach-reply, reach-visitor, reachable, Passing, NeverStops, step-reply}
 use Rattle.walk.specs.ReachIsDistance.{ReachIsDistance}
 use Rattle.walk.specs.Walk.{State, walk, if-continue}
@@ -108,7 +109,8 @@ module _ (G : Meaning) (F : ℕ → Control Bool) (n : NeverStops F) where
           absurd (answer d .1 e (j .0, way-map (λ x y p. (p .listed, (p .permitted, p .passes))) (subst (λ n. Way (Passing G F) a n b) (j .1) (w .1 .way)))),
     )
     other d (Some c) e = (
-      λ _. let h = answer d .0 c e .1 in nearest (suc (h .0)) (way-map (λ x y p. record { listed = p .0; permitted = p .1 .0; passes = p .1 .1 }) (h .1)),
+      λ _. let h =
+          answer d .0 c e .1 in nearest (suc (h .0)) (way-map (λ x y p. record { listed = p .0; permitted = p .1 .0; passes = p .1 .1 }) (h .1)),
       λ _. answer d .0 c e .0,
     )
 

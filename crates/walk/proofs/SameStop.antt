@@ -9,10 +9,12 @@ use Rattle.walk.specs.declared.event.Control.{Control}
 use Rattle.walk.specs.declared.event.Control.the-variants.{Continue, Prune, Break}
 use Rattle.walk.specs.declared.event.DfsEvent.{DfsEvent}
 use Rattle.walk.specs.declared.event.DfsEvent.the-variants.{Discover, TreeEdge, BackEdge, CrossForwardEdge, Finish}
-use Rattle.walk.specs.Marks.{Mark, New, Open, Done}
+use Rattle.walk.specs.declared.mark.Mark.{Mark}
+use Rattle.walk.specs.declared.mark.Mark.the-variants.{New, Open, Done}
 use Rattle.walk.specs.Walk.{Visitor, State, stop-of, report, stamp, discover, finish, close, edge, scan, opening, starts, begin, walk, if-continue, unless-ended, read-marked, start-marked}
 
-module _ {S T B : Type 0} (V : Visitor S B) (U : Visitor T B) (h : S → T) (replies : (x : S) (e : DfsEvent) → U .reply (h x) e ≡ V .reply x e) (moves : (x : S) (e : DfsEvent) → U .next (h x) e ≡ h (V .next x e)) (G : Meaning) where
+module _ {S T B : Type 0} (V : Visitor S B) (U : Visitor T B) (h : S → T) (replies : (x : S) (e : DfsEvent) → U .reply (h x) e ≡ V .reply x e)
+    (moves : (x : S) (e : DfsEvent) → U .next (h x) e ≡ h (V .next x e)) (G : Meaning) where
   abbrev carry : State S B → State T B
   carry s = record { mark = s .mark; time = s .time; visitor = h (s .visitor); log = s .log; stop = s .stop }
 

@@ -7,7 +7,8 @@ use Rattle.std.specs.declared.option.Option.{Option}
 use Rattle.std.specs.declared.option.Option.the-variants.{None, Some}
 use Rattle.graph.specs.Meaning.{Sound, Member, Meaning}
 use Rattle.walk.specs.declared.event.DfsEvent.the-variants.{TreeEdge}
-use Rattle.walk.specs.Marks.{Mark, New, Open, Done}
+use Rattle.walk.specs.declared.mark.Mark.{Mark}
+use Rattle.walk.specs.declared.mark.Mark.the-variants.{New, Open, Done}
 use Rattle.walk.specs.Walk.{Visitor, State, stop-of, report, discover, finish, opening, starts, begin, walk, unless-ended, start-marked}
 use Rattle.walk.proofs.Cases.{event-of}
 use Rattle.walk.proofs.Induct.{Running, Laws, open-law}
@@ -19,7 +20,9 @@ Blocks G us = (u : ℕ) → Member u us → u < G .size
 
 module _ {S B : Type 0} (V : Visitor S B) (G : Meaning) where
   -- what each opening of a start keeps, the starts keep
-  module _ (P : ℕ → State S B → State S B → Type 0) (E : ℕ → ℕ → State S B → State S B → Type 0) (Q : ℕ → List ℕ → State S B → State S B → Type 0) (L : Laws V G P E Q) (W : Sound G) (I : State S B → Type 0) (one : (u : ℕ) (s s′ : State S B) → Running V G s → s .mark u ≡ New → u < G .size → I s → P u s s′ → I s′) where
+  module _ (P : ℕ → State S B → State S B → Type 0) (E : ℕ → ℕ → State S B → State S B → Type 0) (Q : ℕ → List ℕ → State S B → State S B → Type 0)
+      (L : Laws V G P E Q) (W : Sound G) (I : State S B → Type 0)
+      (one : (u : ℕ) (s s′ : State S B) → Running V G s → s .mark u ≡ New → u < G .size → I s → P u s s′ → I s′) where
     pub starts-rule : (us : List ℕ) (s : State S B) → Blocks G us → I s → I (starts V G (G .size) us s)
     unfolding starts
     starts-rule [] s b i = i

@@ -2,7 +2,9 @@
 use mathlib.Core.Logic.{inl, inr}
 use mathlib.Core.Path.{_≡_, refl, sym, _∙_, ap, subst}
 use Prim.Native.Nat.{ℕ}
-use Rattle.walk.specs.Marks.{Mark, New, Open, Done, mark-as}
+use Rattle.walk.specs.declared.mark.Mark.{Mark}
+use Rattle.walk.specs.declared.mark.Mark.the-variants.{New, Open, Done}
+use Rattle.walk.specs.Marks.{mark-as}
 use Rattle.walk.proofs.Cases.{new-open, open-done, new-seen}
 use Rattle.walk.proofs.Marks.{Seen, Grow, same-or-not, mark-as-same, mark-as-other}
 

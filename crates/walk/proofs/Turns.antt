@@ -9,7 +9,9 @@ use Rattle.graph.specs.Meaning.{Meaning}
 use Rattle.walk.specs.declared.event.Control.{Control}
 use Rattle.walk.specs.declared.event.Control.the-variants.{Continue, Prune, Break}
 use Rattle.walk.specs.declared.event.DfsEvent.the-variants.{Discover, TreeEdge}
-use Rattle.walk.specs.Marks.{Mark, New, Open, Done, unseen}
+use Rattle.walk.specs.declared.mark.Mark.{Mark}
+use Rattle.walk.specs.declared.mark.Mark.the-variants.{New, Open, Done}
+use Rattle.walk.specs.Marks.{unseen}
 use Rattle.walk.specs.OpenBlocks.{OpenBlock, unwind}
 use Rattle.walk.specs.Walk.{Visitor, State, stop-of, report, discover, finish, close, scan, opening, read-marked, if-continue, unless-ended}
 use Rattle.walk.proofs.Cases.{event-of}

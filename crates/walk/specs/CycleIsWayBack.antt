@@ -1,6 +1,6 @@
 -- The law of cycles: yes is said exactly where a nonempty way over listed neighbours leads back. Assumes nothing.
 --
---   CycleIsWayBack G u answer   the law, for the answer `answer` to whether u lies on a cycle
+--   CycleIsWayBack G u answer   the law, for an answer to whether u lies on a cycle
 use mathlib.Core.Bool.{Bool, true}
 use mathlib.Core.Logic.{_↔_}
 use mathlib.Core.Path.{_≡_}

@@ -1,19 +1,18 @@
 -- The marks of blocks, and a board of bytes that holds them. Assumes nothing.
 --
---   Mark          New: not discovered; Open: discovered, not finished; Done: finished
---   mark-as u m f the marks f, with that of u set to m
---   byte-of m     the byte that stands for the mark m
---   Holds bs f n  the bytes bs hold the marks f of the blocks below n
---   unseen f n    how many blocks below n are new under the marks f
+--   mark-as u m f   the marks f, with that of u set to m
+--   byte-of m       the byte that stands for the mark m
+--   mark-of b       the mark that the byte b stands for
+--   Holds bs f n    the bytes bs hold the marks f of the blocks below n
+--   unseen f n      how many blocks below n are new under the marks f
 use mathlib.Core.Bool.{cond}
 use mathlib.Core.List.{List}
 use mathlib.Core.Path.{_≡_}
 use Prim.Native.Nat.{ℕ, zero, suc, _+_, _<_}
 use lib.Dec.{eqb}
 use lib.ListN.{getD}
-
-pub data Mark : Type 0 where
-  New Open Done : Mark
+use Rattle.walk.specs.declared.mark.Mark.{Mark}
+use Rattle.walk.specs.declared.mark.Mark.the-variants.{New, Open, Done}
 
 abbrev pub mark-as : ℕ → Mark → (ℕ → Mark) → ℕ → Mark
 mark-as u m f w = cond (eqb w u) m (f w)
@@ -23,8 +22,13 @@ byte-of New = 0
 byte-of Open = 1
 byte-of Done = 2
 
+abbrev pub mark-of : ℕ → Mark
+mark-of zero = New
+mark-of (suc zero) = Open
+mark-of (suc (suc b)) = Done
+
 abbrev pub Holds : List ℕ → (ℕ → Mark) → ℕ → Type 0
-Holds bs f n = (k : ℕ) → k < n → getD bs k 0 ≡ byte-of (f k)
+Holds bs f n = (k : ℕ) → k < n → mark-of (getD bs k 0) ≡ f k
 
 -- 1 for a new block, else 0
 abbrev pub one-if-new : Mark → ℕ

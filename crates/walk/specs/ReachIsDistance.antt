@@ -1,6 +1,6 @@
 -- The law of reach: under a filter that never stops, yes is said exactly where the target has a distance. Assumes nothing.
 --
---   ReachIsDistance G F a b answer the law, for the answer `answer` to whether b is reached from a
+--   ReachIsDistance G F a b answer   the law, for an answer to whether b is reached from a
 use mathlib.Core.Bool.{Bool, true}
 use mathlib.Core.Logic.{_↔_}
 use mathlib.Core.Path.{_≡_}

@@ -23,7 +23,9 @@ use Rattle.walk.specs.declared.event.DfsEvent.{DfsEvent}
 use Rattle.walk.specs.declared.event.DfsEvent.the-variants.{Discover, TreeEdge, BackEdge, CrossForwardEdge, Finish}
 use Rattle.walk.specs.declared.event.Control.{Control}
 use Rattle.walk.specs.declared.event.Control.the-variants.{Continue, Prune, Break}
-use Rattle.walk.specs.Marks.{Mark, New, Open, Done, mark-as}
+use Rattle.walk.specs.declared.mark.Mark.{Mark}
+use Rattle.walk.specs.declared.mark.Mark.the-variants.{New, Open, Done}
+use Rattle.walk.specs.Marks.{mark-as}
 
 pub record Visitor (S B : Type 0) : Type 0 where
   pub reply : S → DfsEvent → Control B
