@@ -70,36 +70,42 @@ module _ {S B : Type 0} (V : Visitor S B) (G : Meaning) where
     open-halt =
         λ u s r m l b e. (grown u s m l, deep u s m l (discover V u s) (λ d h. unread u s m l (Break b) (discover V u s) e (λ k. refl) refl d));
     open-prune =
-        λ u s r m l e.
-            (grow-trans (s .mark) (mark-as u Open (s .mark)) (mark-as u Done (mark-as u Open (s .mark))) (grown u s m l) (grow-mark-as u Done (mark-as u Open (s .mark)) tt),
-             deep u s m l (finish V u (discover V u s)) (λ d h. unread u s m l Prune (finish V u (discover V u s)) e (λ k. refl) refl d));
+        λ u s r m l e. (
+          grow-trans (s .mark) (mark-as u Open (s .mark)) (mark-as u Done (mark-as u Open (s .mark))) (grown u s m l) (grow-mark-as u Done (mark-as u Open (s .mark)) tt),
+          deep u s m l (finish V u (discover V u s)) (λ d h. unread u s m l Prune (finish V u (discover V u s)) e (λ k. refl) refl d),
+        );
     open-stop =
-        λ u s r m l e s′ q b h.
-            (grow-trans (s .mark) (mark-as u Open (s .mark)) (s′ .mark) (grown u s m l) (q .0),
-             deep u s m l s′ (read u s m l s′ s′ e q (ap (λ o. unless-ended o s′ (finish V u s′)) h)));
+        λ u s r m l e s′ q b h. (
+          grow-trans (s .mark) (mark-as u Open (s .mark)) (s′ .mark) (grown u s m l) (q .0),
+          deep u s m l s′ (read u s m l s′ s′ e q (ap (λ o. unless-ended o s′ (finish V u s′)) h)),
+        );
     open-go =
-        λ u s r m l e s′ q z.
-            (grow-trans (s .mark) (s′ .mark) (mark-as u Done (s′ .mark)) (grow-trans (s .mark) (mark-as u Open (s .mark)) (s′ .mark) (grown u s m l) (q .0)) (grow-mark-as u Done (s′ .mark) tt),
-             deep u s m l (finish V u s′) (read u s m l s′ (finish V u s′) e q (ap (λ o. unless-ended o s′ (finish V u s′)) z)));
+        λ u s r m l e s′ q z. (
+          grow-trans (s .mark) (s′ .mark) (mark-as u Done (s′ .mark)) (grow-trans (s .mark) (mark-as u Open (s .mark)) (s′ .mark) (grown u s m l) (q .0)) (grow-mark-as u Done (s′ .mark) tt),
+          deep u s m l (finish V u s′) (read u s m l s′ (finish V u s′) e q (ap (λ o. unless-ended o s′ (finish V u s′)) z)),
+        );
     tree-stay =
-        λ u v s r i m t.
-            (grow-refl (s .mark),
-             λ d h.
-                 edge-marked V G (opening V G d) u v New s r m
-                 ∙ stay (V .reply (s .visitor) (TreeEdge u v)) (report V (TreeEdge u v) s) (opening V G d v (report V (TreeEdge u v) s)) t);
+        λ u v s r i m t. (
+          grow-refl (s .mark),
+          λ d h.
+              edge-marked V G (opening V G d) u v New s r m
+              ∙ stay (V .reply (s .visitor) (TreeEdge u v)) (report V (TreeEdge u v) s) (opening V G d v (report V (TreeEdge u v) s)) t,
+        );
     tree-go =
-        λ u v s r i m e s′ p.
-            (p .0,
-             λ d h.
-                 edge-marked V G (opening V G d) u v New s r m
-                 ∙ ap (λ c. if-continue c (report V (TreeEdge u v) s) (opening V G d v (report V (TreeEdge u v) s))) e ∙ p .1 d h);
+        λ u v s r i m e s′ p. (
+          p .0,
+          λ d h.
+              edge-marked V G (opening V G d) u v New s r m
+              ∙ ap (λ c. if-continue c (report V (TreeEdge u v) s) (opening V G d v (report V (TreeEdge u v) s))) e ∙ p .1 d h,
+        );
     back = λ u v s r i m. (grow-refl (s .mark), λ d h. edge-marked V G (opening V G d) u v Open s r m);
     cross = λ u v s r i m. (grow-refl (s .mark), λ d h. edge-marked V G (opening V G d) u v Done s r m);
     nil = λ u s r. (grow-refl (s .mark), λ d h. refl);
     cons =
-        λ u v vs s s₁ s₂ r e r₁ q.
-            (grow-trans (s .mark) (s₁ .mark) (s₂ .mark) (e .0) (q .0),
-             λ d h. ap (scan V (opening V G d) u vs) (e .1 d h) ∙ q .1 d (let k = unseen-grow (s .mark) (s₁ .mark) (e .0) (G .size) in omega arith));
+        λ u v vs s s₁ s₂ r e r₁ q. (
+          grow-trans (s .mark) (s₁ .mark) (s₂ .mark) (e .0) (q .0),
+          λ d h. ap (scan V (opening V G d) u vs) (e .1 d h) ∙ q .1 d (let k = unseen-grow (s .mark) (s₁ .mark) (e .0) (G .size) in omega arith),
+        );
     halt = λ u v vs s s₁ r e b z. (e .0, λ d h. ap (scan V (opening V G d) u vs) (e .1 d h) ∙ scan-ended V G (opening V G d) u vs s₁ b z);
   }
 

@@ -130,9 +130,10 @@ module _ {S B : Type 0} (V : Visitor S B) (G : Meaning) where
         by Prune e H =
             subst
             (λ o. P u s (unless-ended o (discover V u s) (finish V u (discover V u s))) × Grow (s .mark) (unless-ended o (discover V u s) (finish V u (discover V u s)) .mark))
-            (sym (ap stop-of e))
-            (L .open-prune u s r m l e,
-             grow-trans (s .mark) (mark-as u Open (s .mark)) (mark-as u Done (mark-as u Open (s .mark))) grown (grow-mark-as u Done (mark-as u Open (s .mark)) tt))
+            (sym (ap stop-of e)) (
+              L .open-prune u s r m l e,
+              grow-trans (s .mark) (mark-as u Open (s .mark)) (mark-as u Done (mark-as u Open (s .mark))) grown (grow-mark-as u Done (mark-as u Open (s .mark)) tt),
+            )
         by (Break b) e H =
             subst
             (λ o. P u s (unless-ended o (discover V u s) (finish V u (discover V u s))) × Grow (s .mark) (unless-ended o (discover V u s) (finish V u (discover V u s)) .mark))

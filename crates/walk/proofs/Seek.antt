@@ -154,13 +154,14 @@ module _ {S B : Type 0} (V : Visitor S B) (G : Meaning) (ok : ℕ → ℕ → Ty
       good = K .keep (s .visitor) (Discover u (s .time)) (k .good);
       reached =
           λ x t.
-              elim (same-or-not x u) [ inl e ↦ subst Reached (sym e) w | inr n ↦ k .reached x (subst Seen (mark-as-other u Open (s .mark) x n) t) ];
+          elim (same-or-not x u) [ inl e ↦ subst Reached (sym e) w | inr n ↦ k .reached x (subst Seen (mark-as-other u Open (s .mark) x n) t) ];
       target = mark-as-other u Open (s .mark) to (λ e. d (sym e)) ∙ k .target;
       settled =
           λ x e v i.
-              elim (same-or-not x u) [
-                  inl h ↦ absurd (open-done (mark-as u Open (s .mark) x) (ap (mark-as u Open (s .mark)) h ∙ mark-as-same u Open (s .mark)) e)
-                | inr n ↦ settle-grow (s .mark) (mark-as u Open (s .mark)) (grow-mark-as u Open (s .mark) tt) x v (k .settled x (sym (mark-as-other u Open (s .mark) x n) ∙ e) v i) ];
+          elim (same-or-not x u) [
+            | inl h ↦ absurd (open-done (mark-as u Open (s .mark) x) (ap (mark-as u Open (s .mark)) h ∙ mark-as-same u Open (s .mark)) e)
+            | inr n ↦ settle-grow (s .mark) (mark-as u Open (s .mark)) (grow-mark-as u Open (s .mark) tt) x v (k .settled x (sym (mark-as-other u Open (s .mark) x n) ∙ e) v i)
+          ];
     }
 
     known-close : (u : ℕ) (s : State S B) → u ≢ to → Known s → Reached u → ((v : ℕ) → Member v (G .neighbors u) → Settled (s .mark) u v)
@@ -169,13 +170,14 @@ module _ {S B : Type 0} (V : Visitor S B) (G : Meaning) (ok : ℕ → ℕ → Ty
       good = K .keep (s .visitor) (Finish u (s .time)) (k .good);
       reached =
           λ x t.
-              elim (same-or-not x u) [ inl e ↦ subst Reached (sym e) w | inr n ↦ k .reached x (subst Seen (mark-as-other u Done (s .mark) x n) t) ];
+          elim (same-or-not x u) [ inl e ↦ subst Reached (sym e) w | inr n ↦ k .reached x (subst Seen (mark-as-other u Done (s .mark) x n) t) ];
       target = mark-as-other u Done (s .mark) to (λ e. d (sym e)) ∙ k .target;
       settled =
           λ x e v i.
-              elim (same-or-not x u) [
-                  inl h ↦ settle-grow (s .mark) (mark-as u Done (s .mark)) (grow-mark-as u Done (s .mark) tt) x v (subst (λ y. Settled (s .mark) y v) (sym h) (a v (subst (λ y. Member v (G .neighbors y)) h i)))
-                | inr n ↦ settle-grow (s .mark) (mark-as u Done (s .mark)) (grow-mark-as u Done (s .mark) tt) x v (k .settled x (sym (mark-as-other u Done (s .mark) x n) ∙ e) v i) ];
+          elim (same-or-not x u) [
+            | inl h ↦ settle-grow (s .mark) (mark-as u Done (s .mark)) (grow-mark-as u Done (s .mark) tt) x v (subst (λ y. Settled (s .mark) y v) (sym h) (a v (subst (λ y. Member v (G .neighbors y)) h i)))
+            | inr n ↦ settle-grow (s .mark) (mark-as u Done (s .mark)) (grow-mark-as u Done (s .mark) tt) x v (k .settled x (sym (mark-as-other u Done (s .mark) x n) ∙ e) v i)
+          ];
     }
 
     law-open-halt : (u : ℕ) (s : State S B) → Running V G s → s .mark u ≡ New → u < G .size → (b : B)
@@ -194,9 +196,10 @@ module _ {S B : Type 0} (V : Visitor S B) (G : Meaning) (ok : ℕ → ℕ → Ty
     law-open-go : (u : ℕ) (s : State S B) → Running V G s → s .mark u ≡ New → u < G .size → V .reply (s .visitor) (Discover u (s .time)) ≡ Continue
         → (s′ : State S B) → Q u (G .neighbors u) (discover V u s) s′ → Running V G s′ → P u s (finish V u s′)
     law-open-go u s r m l e s′ q r′ d k w =
-        let y = q (known-open u s d k w) (mark-as-same u Open (s .mark)) w .0 r′ in
-        (λ _. (known-close u s′ d (y .0) w (y .2), steady-wrap u (s .mark) (s′ .mark) m (y .1), mark-as-same u Done (s′ .mark)),
-         λ b h. absurd (run-stop _ b (ap stop-of (K .at-finish (s′ .visitor) u (s′ .time) (y .0 .good))) h))
+        let y = q (known-open u s d k w) (mark-as-same u Open (s .mark)) w .0 r′ in (
+          λ _. (known-close u s′ d (y .0) w (y .2), steady-wrap u (s .mark) (s′ .mark) m (y .1), mark-as-same u Done (s′ .mark)),
+          λ b h. absurd (run-stop _ b (ap stop-of (K .at-finish (s′ .visitor) u (s′ .time) (y .0 .good))) h),
+        )
 
     pub laws : Laws V G P E Q
     laws =
@@ -265,15 +268,17 @@ module _ {S B : Type 0} (V : Visitor S B) (G : Meaning) (ok : ℕ → ℕ → Ty
           good = K .keep v (Discover source 0) g;
           reached =
               λ x t.
-                  elim (same-or-not x source) [
-                      inl d ↦ subst Reached (sym d) (0, here)
-                    | inr d ↦ absurd (subst Seen (mark-as-other source Open (λ w. New) x d) t) ];
+              elim (same-or-not x source) [
+                | inl d ↦ subst Reached (sym d) (0, here)
+                | inr d ↦ absurd (subst Seen (mark-as-other source Open (λ w. New) x d) t)
+              ];
           target = e;
           settled =
               λ x d y i.
-                  elim (same-or-not x source) [
-                      inl a ↦ absurd (open-done (mark-as source Open (λ w. New) x) (ap (mark-as source Open (λ w. New)) a ∙ mark-as-same source Open (λ w. New)) d)
-                    | inr a ↦ absurd (subst Is-new (sym (mark-as-other source Open (λ w. New) x a) ∙ d) tt) ];
+              elim (same-or-not x source) [
+                | inl a ↦ absurd (open-done (mark-as source Open (λ w. New) x) (ap (mark-as source Open (λ w. New)) a ∙ mark-as-same source Open (λ w. New)) d)
+                | inr a ↦ absurd (subst Is-new (sym (mark-as-other source Open (λ w. New) x a) ∙ d) tt)
+              ];
         }
 
         both : (Running V G s₂ → Known s₂ × Steady (s₁ .mark) (s₂ .mark) × ((x : ℕ) → Member x (G .neighbors source) → Settled (s₂ .mark) source x)) × ((b : B) → s₂ .stop ≡ Some b → Right b × Hit)
@@ -285,7 +290,7 @@ module _ {S B : Type 0} (V : Visitor S B) (G : Meaning) (ok : ℕ → ℕ → Ty
               λ b h. absurd (run-stop _ b (ap stop-of (K .at-finish (s₂ .visitor) source (s₂ .time) (y .0 .good))) h),
               λ _ w.
                   no-hit (s₂ .mark) (all-settled s₂ (y .0) (y .1) (y .2)) (w .1)
-                      (is-seen (s₂ .mark source) Open tt (y .1 source .0 (is-seen _ Open tt (mark-as-same source Open (λ w. New))) ∙ mark-as-same source Open (λ w. New))) refl,
+                  (is-seen (s₂ .mark source) Open tt (y .1 source .0 (is-seen _ Open tt (mark-as-same source Open (λ w. New))) ∙ mark-as-same source Open (λ w. New))) refl,
             )
         shut (Some b) z = (both .1, λ r. absurd (run-stop (s₂ .stop) b r z))
 

@@ -89,21 +89,23 @@ module _ {S B : Type 0} (V : Visitor S B) (G : Meaning) where
   base-open u s m b = record {
     seen-disc =
         λ x t.
-            elim (same-or-not x u) [
-                inl e ↦ (s .time, inl (e, refl))
-              | inr n ↦ let h = b .seen-disc x (subst Seen (mark-as-other u Open (s .mark) x n) t) in (h .0, inr (h .1)) ];
+        elim (same-or-not x u) [
+          | inl e ↦ (s .time, inl (e, refl))
+          | inr n ↦ let h = b .seen-disc x (subst Seen (mark-as-other u Open (s .mark) x n) t) in (h .0, inr (h .1))
+        ];
     disc-seen = seen;
     disc-one = one;
     disc-same = same;
     done-fin =
         λ x e.
-            elim (same-or-not x u) [
-                inl i ↦ absurd (open-done _ (ap (mark-as u Open (s .mark)) i ∙ mark-as-same u Open (s .mark)) e)
-              | inr n ↦ let h = b .done-fin x (sym (mark-as-other u Open (s .mark) x n) ∙ e) in (h .0, inr (h .1)) ];
+        elim (same-or-not x u) [
+          | inl i ↦ absurd (open-done _ (ap (mark-as u Open (s .mark)) i ∙ mark-as-same u Open (s .mark)) e)
+          | inr n ↦ let h = b .done-fin x (sym (mark-as-other u Open (s .mark) x n) ∙ e) in (h .0, inr (h .1))
+        ];
     fin-done =
         λ x f h. let k =
-            b .fin-done x f (nf x f h) in
-                (mark-as-other u Open (s .mark) x (λ e. new-done (s .mark u) m (sym (ap (s .mark) e) ∙ k .0)) ∙ k .0, let l = k .1 in omega arith);
+        b .fin-done x f (nf x f h) in
+        (mark-as-other u Open (s .mark) x (λ e. new-done (s .mark u) m (sym (ap (s .mark) e) ∙ k .0)) ∙ k .0, let l = k .1 in omega arith);
     fin-one = λ x f g h k. b .fin-one x f g (nf x f h) (nf x g k);
     fin-after = after;
   }
@@ -138,17 +140,19 @@ module _ {S B : Type 0} (V : Visitor S B) (G : Meaning) where
   base-close u s m b = record {
     seen-disc =
         λ x t.
-            elim (same-or-not x u) [
-                inl e ↦ let h = b .seen-disc x (is-seen _ Open tt (ap (s .mark) e ∙ m)) in (h .0, inr (h .1))
-              | inr n ↦ let h = b .seen-disc x (subst Seen (mark-as-other u Done (s .mark) x n) t) in (h .0, inr (h .1)) ];
+        elim (same-or-not x u) [
+          | inl e ↦ let h = b .seen-disc x (is-seen _ Open tt (ap (s .mark) e ∙ m)) in (h .0, inr (h .1))
+          | inr n ↦ let h = b .seen-disc x (subst Seen (mark-as-other u Done (s .mark) x n) t) in (h .0, inr (h .1))
+        ];
     disc-seen = λ x d h. let k = b .disc-seen x d (nd x d h) in (grow-mark-as u Done (s .mark) tt x (k .0), let a = k .1 in omega arith);
     disc-one = λ x d e h k. b .disc-one x d e (nd x d h) (nd x e k);
     disc-same = λ x y d h k. b .disc-same x y d (nd x d h) (nd y d k);
     done-fin =
         λ x e.
-            elim (same-or-not x u) [
-                inl i ↦ (s .time, inl (i, refl))
-              | inr n ↦ let h = b .done-fin x (sym (mark-as-other u Done (s .mark) x n) ∙ e) in (h .0, inr (h .1)) ];
+        elim (same-or-not x u) [
+          | inl i ↦ (s .time, inl (i, refl))
+          | inr n ↦ let h = b .done-fin x (sym (mark-as-other u Done (s .mark) x n) ∙ e) in (h .0, inr (h .1))
+        ];
     fin-done = done;
     fin-one = one;
     fin-after = λ x d f h k. after x d f (nd x d h) k;
@@ -188,8 +192,11 @@ module _ {S B : Type 0} (V : Visitor S B) (G : Meaning) where
       let c = chain s i w (a .e) (a .disc-b) in
       let z = i .base .disc-one x d (a .d) h (a .disc-a) in
       record {
-          e = c .e; disc-y = c .disc-y; down = let p = a .down in let q = c .down in omega arith;
-          ends = λ f k. let p = a .ends f k in let q = c .ends (p .0) (p .1) in (q .0, q .1, let m = p .2 in let n = q .2 in omega arith) }
+        e = c .e;
+        disc-y = c .disc-y;
+        down = let p = a .down in let q = c .down in omega arith;
+        ends = λ f k. let p = a .ends f k in let q = c .ends (p .0) (p .1) in (q .0, q .1, let m = p .2 in let n = q .2 in omega arith);
+      }
 
   pub record Under (l : List (Report B)) (x y d e : ℕ) : Type 0 where
     pub below : d < e
@@ -203,8 +210,9 @@ module _ {S B : Type 0} (V : Visitor S B) (G : Meaning) where
       let z = i .base .disc-one x d (a .d) h (a .disc-a) in
       let z′ = i .base .disc-one w′ e (c .e) j (c .disc-y) in
       record {
-          below = let p = a .down in let q = c .down in omega arith;
-          ends = λ f k. let p = a .ends f k in let q = c .ends (p .0) (p .1) in (q .0, q .1, let m = p .2 in let n = q .2 in omega arith) }
+        below = let p = a .down in let q = c .down in omega arith;
+        ends = λ f k. let p = a .ends f k in let q = c .ends (p .0) (p .1) in (q .0, q .1, let m = p .2 in let n = q .2 in omega arith);
+      }
 
   -- an edge event that is no unpruned tree edge
   pub inv-quiet : (m : Mark) (u v : ℕ) (s : State S B) → ((a b : ℕ) → Descends a b (event-of m u v) (V .reply (s .visitor) (event-of m u v)) → ⊥)
@@ -304,17 +312,26 @@ module _ {S B : Type 0} (V : Visitor S B) (G : Meaning) where
       edges a b (inl p) =
           let h = i .base .seen-disc u (is-seen _ Open tt (o .0)) in
           record {
-              d = h .0; e = s .time; disc-a = inr (inr (subst (λ y. Discovered (s .log) y (h .0)) (sym (p .0)) (h .1))); disc-b = inl (p .1, refl);
-              down = i .base .disc-seen u (h .0) (h .1) .1;
-              ends =
-                  λ f k.
-                      absurd
-                          (open-done (s .mark a) (ap (s .mark) (p .0) ∙ o .0) (i .base .fin-done a f (not-left (λ z. z) (not-left (λ z. z) k)) .0)) }
+            d = h .0;
+            e = s .time;
+            disc-a = inr (inr (subst (λ y. Discovered (s .log) y (h .0)) (sym (p .0)) (h .1)));
+            disc-b = inl (p .1, refl);
+            down = i .base .disc-seen u (h .0) (h .1) .1;
+            ends =
+                λ f k.
+                absurd
+                (open-done (s .mark a) (ap (s .mark) (p .0) ∙ o .0) (i .base .fin-done a f (not-left (λ z. z) (not-left (λ z. z) k)) .0));
+          }
       edges a b (inr t) =
           let g = i .edge a b t in
           record {
-              d = g .d; e = g .e; disc-a = inr (inr (g .disc-a)); disc-b = inr (inr (g .disc-b)); down = g .down;
-              ends = λ f k. let p = g .ends f (not-left (λ z. z) (not-left (λ z. z) k)) in (p .0, inr (inr (p .1)), p .2) }
+            d = g .d;
+            e = g .e;
+            disc-a = inr (inr (g .disc-a));
+            disc-b = inr (inr (g .disc-b));
+            down = g .down;
+            ends = λ f k. let p = g .ends f (not-left (λ z. z) (not-left (λ z. z) k)) in (p .0, inr (inr (p .1)), p .2);
+          }
 
       older : (x y e : ℕ) → ((f : ℕ) × Finished (s .log) x f × (f < e)) ⊎ Leads (s .log) x y → ((f : ℕ) × Finished l′ x f × (f < e)) ⊎ Leads l′ x y
       older x y e (inl p) = inl (p .0, inr (inr (p .1)), p .2)
@@ -412,20 +429,20 @@ module _ {S B : Type 0} (V : Visitor S B) (G : Meaning) where
     open-stop = λ u s r m l e s′ q b h i o. (q i o .0, λ z. absurd (run-stop (s′ .stop) b z h));
     open-go =
         λ u s r m l e s′ q z i o. let k =
-            q i o in let j = k .1 z in closing u s s′ m (k .0) (top-on u (discover V u s) s′ o (j .0) (j .1)) (j .0) (j .1);
+        q i o in let j = k .1 z in closing u s s′ m (k .0) (top-on u (discover V u s) s′ o (j .0) (j .1)) (j .0) (j .1);
     tree-stay =
         λ u v s r j m t i o.
-            (inv-quiet New u v s (stays-not u v (V .reply (s .visitor) (TreeEdge u v)) t) i, λ _. (steady-refl (s .mark), λ a b h. inr h));
+        (inv-quiet New u v s (stays-not u v (V .reply (s .visitor) (TreeEdge u v)) t) i, λ _. (steady-refl (s .mark), λ a b h. inr h));
     tree-go =
         λ u v s r j m c s′ p i o. let n =
-            inv-child u v s m c i o in let k = p (n .0) (n .1) in (k .0, λ z. let x = k .1 z in (x .0, λ a b h. x .1 a b (inr h)));
+        inv-child u v s m c i o in let k = p (n .0) (n .1) in (k .0, λ z. let x = k .1 z in (x .0, λ a b h. x .1 a b (inr h)));
     back = λ u v s r j m i o. (inv-quiet Open u v s (λ a b h. h) i, λ _. (steady-refl (s .mark), λ a b h. inr h));
     cross = λ u v s r j m i o. (inv-quiet Done u v s (λ a b h. h) i, λ _. (steady-refl (s .mark), λ a b h. inr h));
     nil = λ u s r i o. (i, λ _. (steady-refl (s .mark), λ a b h. h));
     cons =
         λ u v vs s s₁ s₂ r e r₁ q i o. let k =
-            e i o in let j = k .1 r₁ in let n = q (k .0) (top-on u s s₁ o (j .0) (j .1)) in
-                (n .0, λ z. let x = n .1 z in (steady-trans (s .mark) (s₁ .mark) (s₂ .mark) (j .0) (x .0), λ a b h. x .1 a b (j .1 a b h)));
+        e i o in let j = k .1 r₁ in let n = q (k .0) (top-on u s s₁ o (j .0) (j .1)) in
+        (n .0, λ z. let x = n .1 z in (steady-trans (s .mark) (s₁ .mark) (s₂ .mark) (j .0) (x .0), λ a b h. x .1 a b (j .1 a b h)));
     halt = λ u v vs s s₁ r e b h i o. (e i o .0, λ z. absurd (run-stop (s₁ .stop) b z h));
   }
 
@@ -436,9 +453,15 @@ module _ {S B : Type 0} (V : Visitor S B) (G : Meaning) where
   inv-begin x = record {
     base =
         record {
-            seen-disc = λ y t. absurd t; disc-seen = λ y d h. absurd h; disc-one = λ y d e h k. absurd h; disc-same = λ y z d h k. absurd h;
-            done-fin = λ y e. absurd (new-done New refl e); fin-done = λ y f h. absurd h; fin-one = λ y f g h k. absurd h;
-            fin-after = λ y d f h k. absurd h };
+          seen-disc = λ y t. absurd t;
+          disc-seen = λ y d h. absurd h;
+          disc-one = λ y d e h k. absurd h;
+          disc-same = λ y z d h k. absurd h;
+          done-fin = λ y e. absurd (new-done New refl e);
+          fin-done = λ y f h. absurd h;
+          fin-one = λ y f g h k. absurd h;
+          fin-after = λ y d f h k. absurd h;
+        };
     edge = λ a b t. absurd t;
     pair = λ y z d e h k l. absurd h;
   }
@@ -459,9 +482,10 @@ module _ {S B : Type 0} (V : Visitor S B) (G : Meaning) where
   nests s i x d f y e g p q n =
       record {
         nested-or-apart = which (order d e);
-        inside =
-            (λ h. into h (i .pair x y d e (p .from) (q .from) (h .0)),
-             λ w. (under s i (w .1) d e (p .from) (q .from) .below, upper (under s i (w .1) d e (p .from) (q .from) .ends)));
+        inside = (
+          λ h. into h (i .pair x y d e (p .from) (q .from) (h .0)),
+          λ w. (under s i (w .1) d e (p .from) (q .from) .below, upper (under s i (w .1) d e (p .from) (q .from) .ends)),
+        );
       }
     where
       upper : Ends-in (s .log) x y → g < f

@@ -1,0 +1,4 @@
+pub mod Held
+pub mod OpenFrames
+pub mod Standing
+pub mod Turn
