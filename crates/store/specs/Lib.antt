@@ -1,3 +1,5 @@
 pub mod Edges
 pub mod Links
 pub mod View
+pub mod Paths
+pub mod Soundness

@@ -1,6 +1,6 @@
 // The store's two tables, and what ties them together.
 ghost use Prim.Native.Nat.{_≤_};
-ghost use Rattle.std.specs.Of.Vec.{vec-items, vec-cap};
+ghost use Rattle.std.specs.Of.Vec.{vec-items, vec-len, vec-cap};
 ghost use Rattle.store.specs.Links.{Firsts, Nexts, Within, edges-in};
 ghost use Rattle.store.specs.declared.direction.Direction.the-variants.{Outgoing, Incoming};
 use crate::link::Link;
@@ -21,4 +21,5 @@ pub struct EdgeStore {
     ghost nexts_incoming: { Nexts Incoming (vec-items links) },
     ghost sources: { Within Outgoing (vec-items nodes) (vec-items links) },
     ghost targets: { Within Incoming (vec-items nodes) (vec-items links) },
+    ghost few_nodes: { vec-len nodes ≤ 512 },
 }

@@ -103,7 +103,7 @@ impl EdgeStore {
     }
 
     // The place at the head of a block's edges in a direction, newest first; a number that is no block has none. O(1).
-    pub fn head(&self, block: BlockNodeId, direction: Direction) -> Option<usize>
+    pub fn first_edge(&self, block: BlockNodeId, direction: Direction) -> Option<usize>
         ensures { λ r. ⌜ HeadOf direction block (edges-of (now (self .entry))) r ⌝ }
     {
         self.node(block).first(direction)
@@ -131,7 +131,7 @@ impl EdgeStore {
     }
 
     // The edge at a place and the place that follows in that direction, or none at the end of the list. O(1).
-    pub fn next(&self, place: Option<usize>, direction: Direction) -> Option<EdgeStep>
+    pub fn next_edge(&self, place: Option<usize>, direction: Direction) -> Option<EdgeStep>
         ensures { λ r. ⌜ StepsTo direction (edges-of (now (self .entry))) place r ⌝ }
     {
         match place {

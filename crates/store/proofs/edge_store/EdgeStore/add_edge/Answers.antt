@@ -61,7 +61,7 @@ ghost-self c =
                     (nexts-edge Incoming ls _ (ap code (first-newest Incoming s b (c .index-2 .result .now) to (c .index-2 .ensures))) (s .«nexts_incoming»)),
                 (
                   subst (W Outgoing) (sym q) (within-edge Outgoing ns whole ls _ wide from (s .sources)),
-                  (subst (W Incoming) (sym q) (within-edge Incoming ns whole ls _ wide to (s .targets)), tt),
+                  (subst (W Incoming) (sym q) (within-edge Incoming ns whole ls _ wide to (s .targets)), (search needs, tt)),
                 ),
               ),
             ),

@@ -29,7 +29,7 @@ ghost-self c =
                 s .«nexts_incoming»,
                 (
                   subst (W Outgoing) e (within-node Outgoing ns ls _ (s .sources)),
-                  (subst (W Incoming) e (within-node Incoming ns ls _ (s .targets)), tt),
+                  (subst (W Incoming) e (within-node Incoming ns ls _ (s .targets)), (search needs, tt)),
                 ),
               ),
             ),
