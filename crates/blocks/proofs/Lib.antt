@@ -1,3 +1,4 @@
 pub mod Highest
 pub mod Marks
 pub mod Rule
+pub mod Seeking

@@ -8,6 +8,7 @@
 --   mark-set b m g            g with the mark of the block b set to m
 --   target-marked a b k g     g with the mark of b as an edge from a to b of the kind k leaves it
 --   edge-added a b k g        g with that mark and that edge
+--   instructions-in b is      the instructions of the block b, in their order
 --   Grown n e i g h           h has n blocks, e edges and i instructions more than g
 use mathlib.Core.Bool.{Bool, true, false, cond, _||_, _&&_}
 use mathlib.Core.List.{List, [], _∷_, _++_}
@@ -53,6 +54,10 @@ is-unreachable (instruction.Continue l) = false
 is-unreachable instruction.Throw = false
 is-unreachable instruction.Condition = false
 is-unreachable (instruction.Iteration i) = false
+
+abbrev pub instructions-in : ℕ → List BlockInstruction → List Instruction
+instructions-in b [] = []
+instructions-in b (i ∷ is) = cond (eqb (i .block) b) (i .instruction ∷ instructions-in b is) (instructions-in b is)
 
 -- whether the block b holds an Unreachable instruction
 abbrev pub holds-unreachable : ℕ → List BlockInstruction → Bool

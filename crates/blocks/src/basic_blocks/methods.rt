@@ -5,7 +5,8 @@ ghost use mathlib.Core.Path.{_≡_};
 ghost use Prim.Native.Nat.{_+_, _<_};
 ghost use lib.ListN.{length, getD, set};
 ghost use Rattle.std.specs.Vec.{made};
-ghost use Rattle.blocks.specs.Blocks.{holds-unreachable};
+ghost use Rattle.std.specs.shelf.Maps.{nth};
+ghost use Rattle.blocks.specs.Blocks.{holds-unreachable, instructions-in};
 ghost use Rattle.blocks.specs.TablesView.{marks-of, instructions-of};
 use super::BasicBlocks;
 use crate::basic_block::BasicBlock;
@@ -15,6 +16,22 @@ use kinds::block::Instruction;
 use kinds::block::InstructionKind;
 use std::alloc::AllocError;
 use std::alloc::Global;
+
+// The instruction of that index among those of a block.
+fn nth_in(items: &[BlockInstruction], block: BlockNodeId, index: usize) -> Option<Instruction>
+    ensures { λ r. ⌜ r ≡ nth (instructions-in block (now (items .entry))) index ⌝ }
+{
+    let mut left = index;
+    for item in items {
+        if item.block == block {
+            if left == 0 {
+                return Some(item.instruction);
+            }
+            left -= 1;
+        }
+    }
+    None
+}
 
 impl BasicBlocks {
     // Tables with no blocks and no instructions.
@@ -71,6 +88,13 @@ impl BasicBlocks {
         ensures { λ r. ⌜ r ≡ holds-unreachable block (instructions-of (now (self .entry))) ⌝ }
     {
         self.items[block as usize].holds_unreachable
+    }
+
+    // The instruction of that index in a block, if the block has so many. O(n) in the instructions of all blocks.
+    pub fn instruction(&self, block: BlockNodeId, index: usize) -> Option<Instruction>
+        ensures { λ r. ⌜ r ≡ nth (instructions-in block (instructions-of (now (self .entry)))) index ⌝ }
+    {
+        nth_in(self.instructions.as_slice(), block, index)
     }
 
     // Marks one block reachable. O(1).

@@ -2,9 +2,11 @@
 ghost use mathlib.Core.Bool.{true, false};
 ghost use mathlib.Core.Path.{_≡_};
 ghost use Prim.Native.Nat.{_<_};
-ghost use lib.ListN.{length};
+ghost use lib.ListN.{length, getD};
 ghost use Rattle.std.specs.Vec.{made};
-ghost use Rattle.blocks.specs.Blocks.{Grown, empty, edge-added, target-marked, block-added, instruction-added, mark-set};
+ghost use Rattle.std.specs.shelf.Maps.{nth};
+ghost use Rattle.store.specs.View.{nodes-of, edges-of};
+ghost use Rattle.blocks.specs.Blocks.{Grown, instructions-in, empty, edge-added, target-marked, block-added, instruction-added, mark-set};
 ghost use Rattle.blocks.specs.View.{graph-of};
 use super::BlockGraph;
 use crate::basic_blocks::BasicBlocks;
@@ -47,6 +49,29 @@ impl BlockGraph {
         ensures { λ r. ⌜ r ≡ length (graph-of (now (self .entry)) .instructions) ⌝ }
     {
         self.basic_blocks.instruction_count()
+    }
+
+    // The edges between the blocks. O(1).
+    pub fn store(&self) -> &EdgeStore
+        ensures nodes { λ r. ⌜ nodes-of (now r) ≡ length (graph-of (now (self .entry)) .marks) ⌝ }
+        ensures edges { λ r. ⌜ edges-of (now r) ≡ graph-of (now (self .entry)) .edges ⌝ }
+    {
+        &self.store
+    }
+
+    // Whether a block is marked unreachable. O(1).
+    pub fn is_unreachable(&self, block: BlockNodeId) -> bool
+        requires { ⌜ block < length (graph-of (now self) .marks) ⌝ }
+        ensures { λ r. ⌜ r ≡ getD (graph-of (now (self .entry)) .marks) block false ⌝ }
+    {
+        self.basic_blocks.is_unreachable(block)
+    }
+
+    // The instruction of that index in a block, if the block has so many. O(n) in the instructions of all blocks.
+    pub fn instruction(&self, block: BlockNodeId, index: usize) -> Option<Instruction>
+        ensures { λ r. ⌜ r ≡ nth (instructions-in block (graph-of (now (self .entry)) .instructions)) index ⌝ }
+    {
+        self.basic_blocks.instruction(block, index)
     }
 
     // One block more, reachable and with no instructions; answers its number. O(1).
