@@ -1,0 +1,2 @@
+pub mod BlockState
+pub mod View
