@@ -1,0 +1,4 @@
+pub mod Edges
+pub mod Entries
+pub mod Kept
+pub mod Resolving
