@@ -1,0 +1,2 @@
+// The control-flow graph builder.
+pub mod builder;
