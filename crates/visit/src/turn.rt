@@ -88,8 +88,8 @@ pub fn open<G: Graph, V: Visitor>(
     ensures used { λ r. ⌜ elim r [ None ↦ now (stack .exit) .used ≡ now (stack .entry) .used + 1 | Some x ↦ now (stack .exit) .used ≡ now (stack .entry) .used ] ⌝ }
     ensures opens { λ r. ⌜ OpenTurn (V·Visitor .meaning) (G·Graph .meaning (now (graph .entry)))
         (now (now (guard .entry) .marks)) (now (now (guard .exit) .marks)) time u (now (visitor .entry)) (now (visitor .exit))
-        (stacked (G·Graph .rest (now (graph .entry))) (now (now (stack .entry) .slots)) (now (stack .entry) .used))
-        (stacked (G·Graph .rest (now (graph .entry))) (now (now (stack .exit) .slots)) (now (stack .exit) .used)) r ⌝ }
+        (stacked (G·Graph .rest (now (graph .entry))) (now (stack .entry)))
+        (stacked (G·Graph .rest (now (graph .entry))) (now (stack .exit))) r ⌝ }
 {
     guard.set(u, Mark::Open);
     match visitor.visit(DfsEvent::Discover(u, time)) {

@@ -1,0 +1,5 @@
+pub mod Any
+pub mod Refused
+pub mod Frames
+pub mod Kept
+pub mod Explored
