@@ -6,10 +6,12 @@ ghost use Rattle.std.specs.Vec.{made};
 ghost use Rattle.kinds.specs.Replies.{told};
 ghost use Rattle.store.specs.Edges.{listed};
 ghost use Rattle.store.specs.View.{nodes-of, edges-of};
+ghost use Rattle.blocks.specs.View.{graph-of as built};
 ghost use Rattle.cfg.specs.Reads.{no-block, mark-of, instruction-of, left};
 ghost use Rattle.cfg.specs.View.{graph-of};
 use crate::edges::Edges;
 use blocks::block_graph::BlockGraph;
+use book::reply::Tally;
 use kinds::block::BlockNodeId;
 use kinds::block::Instruction;
 use kinds::refusal::Refusal;
@@ -20,9 +22,25 @@ use store::edge_store::EdgeStore;
 #[derive(Drop)]
 pub struct ControlFlowGraph {
     pub(crate) blocks: BlockGraph,
+    tally: Tally,
 }
 
 impl ControlFlowGraph {
+    // The graph of the blocks that a builder made, with the builder's last tally. O(1).
+    pub fn new(blocks: BlockGraph, tally: Tally) -> ControlFlowGraph
+        ensures graph { λ r. ⌜ graph-of r ≡ built blocks ⌝ }
+        ensures tally { λ r. ⌜ r .tally ≡ tally ⌝ }
+    {
+        ControlFlowGraph { blocks, tally }
+    }
+
+    // How many breaks and continues the builder was given, and what became of them. O(1).
+    pub fn tally(&self) -> Tally
+        ensures { λ r. ⌜ r ≡ now (self .entry) .tally ⌝ }
+    {
+        self.tally
+    }
+
     // The number of blocks. O(1).
     pub fn block_count(&self) -> usize
         ensures { λ r. ⌜ r ≡ length (graph-of (now (self .entry)) .marks) ⌝ }

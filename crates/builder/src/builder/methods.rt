@@ -1,14 +1,14 @@
 // The calls that need no context. Each does what the book says of the call of its name, refused or not.
 ghost use mathlib.Core.Path.{_≡_};
 ghost use Rattle.std.specs.Vec.{made};
-ghost use Rattle.blocks.specs.View.{graph-of};
+ghost use Rattle.cfg.specs.View.{graph-of};
 ghost use Rattle.book.specs.Book.{Follows, no-reply, new-block, new-book, tally-of};
 ghost use Rattle.book.specs.declared.call.Call.the-variants as call;
 ghost use Rattle.builder.specs.View.{book-of};
 use super::ControlFlowGraphBuilder;
 use block_builder::block_builder::BlockBuilder;
-use blocks::block_graph::BlockGraph;
 use book::reply::Tally;
+use cfg::control_flow_graph::ControlFlowGraph;
 use contexts::ctx_stack::CtxStack;
 use kinds::block::BlockNodeId;
 use kinds::block::InstructionKind;
@@ -58,10 +58,10 @@ impl<'a> ControlFlowGraphBuilder<'a> {
         }
     }
 
-    // Moves the graph out, with contexts open or not; the tally goes with it.
-    pub fn build(self) -> (BlockGraph, Tally)
-        ensures graph { λ r. ⌜ graph-of (r .0) ≡ book-of (self .entry) .blocks .graph ⌝ }
-        ensures tally { λ r. ⌜ r .1 ≡ tally-of (book-of (self .entry)) ⌝ }
+    // The graph of what was built, with contexts open or not; the tally goes with it. The builder is spent.
+    pub fn build(self) -> ControlFlowGraph
+        ensures graph { λ r. ⌜ graph-of r ≡ book-of (self .entry) .blocks .graph ⌝ }
+        ensures tally { λ r. ⌜ r .tally ≡ tally-of (book-of (self .entry)) ⌝ }
     {
         let tally = self.tally();
         let ControlFlowGraphBuilder {
@@ -72,7 +72,7 @@ impl<'a> ControlFlowGraphBuilder<'a> {
             drawn: _,
             untargeted: _,
         } = self;
-        (blocks.into_graph(), tally)
+        ControlFlowGraph::new(blocks.into_graph(), tally)
     }
 
     // Makes a block that errors lead to, on top of the error path, and answers its number; the current block stays. O(1).
