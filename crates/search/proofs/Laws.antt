@@ -1,5 +1,4 @@
 -- How a walk that is not refused answers, and the laws of the walk at the arguments of the public call.
-use native.Mathlib.Omega.{arith}
 use mathlib.Core.List.{List}
 use mathlib.Core.Path.{_≡_, sym, _∙_, ap, subst}
 use Prim.Native.Nat.{ℕ}
@@ -21,7 +20,7 @@ use Rattle.walk.proofs.Spans.{spans-law}
 use Rattle.walk.proofs.Starts.{Blocks}
 use Rattle.search.specs.Frames.{FramesAfter}
 use Rattle.search.specs.Refused.{refused}
-use Rattle.search.proofs.Refusals.{Ready, ready, below}
+use Rattle.search.proofs.Refusals.{ready, below}
 
 -- nothing was refused, and the walk came to its end
 pub record Answered {S B : Type 0} (why : Option Refusal) (end : State S B) (o : Option B) (x x′ : S) : Type 0 where

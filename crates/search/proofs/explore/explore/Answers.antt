@@ -4,8 +4,8 @@ use mathlib.Core.Path.{refl, _∙_}
 use Prim.Native.Nat.{_+_}
 use Rattle.std.specs.declared.option.Option.the-variants.{Some, None}
 use Rattle.visit.specs.declared.turn.Reading.the-variants.{Passed, Stopped}
-use Rattle.search.proofs.Keeping.{kept-on, kept-pop, kept-set}
 use Rattle.search.proofs.Exploring.{first-member, along, inside, reading, closing, room-above, entering, emptied}
+use Rattle.search.proofs.Keeping.{kept-on, kept-set}
 use Rattle.search.proofs.explore.explore.Needs as need
 
 pub read-requires : need.read-requires

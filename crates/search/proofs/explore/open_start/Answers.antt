@@ -1,9 +1,8 @@
 -- A start is opened with no block open, and the loops lead on.
 use native.Mathlib.Omega.{arith}
-use mathlib.Core.Path.{_∙_}
 use Prim.Native.Nat.{_+_}
-use Rattle.search.proofs.Keeping.{kept-on, kept-set}
 use Rattle.search.proofs.Exploring.{starting}
+use Rattle.search.proofs.Keeping.{kept-on, kept-set}
 use Rattle.search.proofs.explore.open_start.Needs as need
 
 pub returns-in-Some : need.returns-in-Some
