@@ -1,0 +1,3 @@
+// One call of the builder as a value, and lists of them.
+pub mod replay;
+mod replies;
