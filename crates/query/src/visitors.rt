@@ -1,6 +1,5 @@
 // The visitors of the queries.
 ghost use denote.Ref.{now as behind};
-ghost use mathlib.Core.Path.{_≡_};
 ghost use Rattle.walk.specs.Cycle.{cycle-reply};
 ghost use Rattle.walk.specs.Reach.{reach-reply};
 use crate::filter::Filter;

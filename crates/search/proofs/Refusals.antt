@@ -1,5 +1,5 @@
 -- What holds where a walk is not refused, and marks that were clean.
-use borrow.Author.Tests.{ltb-true, ltb-false, le-ltb, eqb-true, not-false}
+use borrow.Author.Tests.{ltb-true, ltb-false, eqb-true, not-false}
 use native.Mathlib.Omega.{arith}
 use mathlib.Core.Bool.{Bool, true, false, not}
 use mathlib.Core.List.{List, [], _∷_, _++_}
@@ -37,22 +37,10 @@ no-row false false true d e = absurd (some-none Short e)
 no-row false false false true e = absurd (some-none Dirty e)
 no-row false false false false e = (refl, refl, refl, refl)
 
-module _ (n : ℕ) (us marks : List ℕ) (room : ℕ) where
-  pub ready : refused n us marks room ≡ None → Ready n us marks room
-  ready e =
-      let p = no-row (no-block n us) (ltb (length marks) n) (ltb room n) (dirty (take n marks)) e in
-      record { all-blocks = p .0; marks-long = ltb-false (length marks) n (p .1); room-long = ltb-false room n (p .2); all-clean = p .3 }
-
-  pub accepted : Ready n us marks room → refused n us marks room ≡ None
-  accepted r =
-      let a = r .all-blocks in
-      let b = le-ltb (length marks) n (r .marks-long) in
-      let c = le-ltb room n (r .room-long) in
-      let d = r .all-clean in
-      none (no-block n us) (ltb (length marks) n) (ltb room n) (dirty (take n marks)) a b c d
-    where
-      none : (a b c d : Bool) → a ≡ false → b ≡ false → c ≡ false → d ≡ false → rows a b c d ≡ None
-      none a b c d p q r s = cc
+pub ready : (n : ℕ) (us marks : List ℕ) (room : ℕ) → refused n us marks room ≡ None → Ready n us marks room
+ready n us marks room e =
+    let p = no-row (no-block n us) (ltb (length marks) n) (ltb room n) (dirty (take n marks)) e in
+    record { all-blocks = p .0; marks-long = ltb-false (length marks) n (p .1); room-long = ltb-false room n (p .2); all-clean = p .3 }
 
 -- every start is a block
 pub below : (n : ℕ) (us : List ℕ) → no-block n us ≡ false → (u : ℕ) → Member u us → u < n

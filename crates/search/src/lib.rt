@@ -20,7 +20,7 @@ use visit::stack::Stack;
 use visit::visitor::Visitor;
 use walk::mark::Mark;
 
-pub mod explore;
+mod explore;
 pub mod refuse;
 
 // Walks the graph depth first from each start in order, skips those discovered, and reports each event to the visitor.

@@ -1,10 +1,11 @@
 -- The law of cycles.
+use borrow.Author.Tests.{eq-eqb, eqb-true}
 use native.Mathlib.Omega.{arith}
 use mathlib.Core.Bool.{Bool, true, false, cond, false≢true}
 use mathlib.Core.List.{[], _∷_}
-use mathlib.Core.Path.{_≡_, refl, sym, ap, subst}
+use mathlib.Core.Path.{_≡_, refl, ap}
 use Prim.Native.Nat.{ℕ, _<_}
-use lib.Dec.{eqb, T, eqb→eq}
+use lib.Dec.{eqb}
 use Rattle.std.specs.declared.option.Option.{Option}
 use Rattle.std.specs.declared.option.Option.the-variants.{None, Some}
 use Rattle.std.specs.Options.{isSome}
@@ -16,12 +17,9 @@ use Rattle.walk.specs.Cycle.{cycle-reply, cycle-visitor, cyclic}
 use Rattle.walk.specs.CycleIsWayBack.{CycleIsWayBack}
 use Rattle.walk.specs.Walk.{State, walk}
 use Rattle.walk.proofs.Cases.{event-of}
-use Rattle.walk.proofs.Marks.{eqb-same, mark-as-same}
+use Rattle.walk.proofs.Marks.{mark-as-same}
 use Rattle.walk.proofs.Seek.{Seeks, seek, Answer}
 use Rattle.walk.proofs.Ways.{way-map}
-
-eq-of-eqb : (a b : ℕ) → eqb a b ≡ true → a ≡ b
-eq-of-eqb a b e = eqb→eq a b (subst T (sym e) tt)
 
 back-true : (c : Bool) (b : Unit {0}) → cond c (Break tt) Continue ≡ Break b → c ≡ true
 back-true true b h = refl
@@ -29,7 +27,7 @@ back-true false b h = let z : _≡_ {A = ℕ} 0 1 = cc in absurd (omega arith)
 
 cycle-found : (u : ℕ) (m : Mark) (a v : ℕ) (b : Unit {0}) → cycle-reply u (event-of m a v) ≡ Break b → Unit {0} × (v ≡ u) × Unit {0}
 cycle-found u New a v b h = let z : _≡_ {A = ℕ} 0 1 = cc in absurd (omega arith)
-cycle-found u Open a v b h = (tt, eq-of-eqb v u (back-true (eqb v u) b h), tt)
+cycle-found u Open a v b h = (tt, eqb-true v u (back-true (eqb v u) b h), tt)
 cycle-found u Done a v b h = let z : _≡_ {A = ℕ} 0 1 = cc in absurd (omega arith)
 
 cycle-seeks : (G : Meaning) (u : ℕ) → Seeks (cycle-visitor u) G (λ a b. Unit {0}) u u Open (λ x. Unit {0}) (λ b. Unit {0})
@@ -37,7 +35,7 @@ cycle-seeks G u = record {
   keep = λ x e g. tt;
   at-block = λ x v t g. refl;
   at-finish = λ x v t g. refl;
-  hit = λ x a g o. (tt, ap (λ c. cond c (Break tt) Continue) (eqb-same u));
+  hit = λ x a g o. (tt, ap (λ c. cond c (Break tt) Continue) (eq-eqb u u refl));
   found = λ x m a v g b h. cycle-found u m a v b h;
   go = λ x a v g o d. refl;
   may = λ x a v g h. tt;

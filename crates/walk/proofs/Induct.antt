@@ -59,18 +59,27 @@ module _ {S B : Type 0} (V : Visitor S B) (G : Meaning) where
 
   module _ (P : ℕ → State S B → State S B → Type 0) (E : ℕ → ℕ → State S B → State S B → Type 0) (Q : ℕ → List ℕ → State S B → State S B → Type 0)
       (L : Laws P E Q) (W : Sound G) where
+    -- each with it that marks only grow
+    abbrev Opened : ℕ → State S B → State S B → Type 0
+    Opened u s s′ = P u s s′ × Grow (s .mark) (s′ .mark)
+
+    abbrev Edged : ℕ → ℕ → State S B → State S B → Type 0
+    Edged u v s s′ = E u v s s′ × Grow (s .mark) (s′ .mark)
+
+    abbrev Scanned : ℕ → List ℕ → State S B → State S B → Type 0
+    Scanned u vs s s′ = Q u vs s s′ × Grow (s .mark) (s′ .mark)
+
     -- what is known of an opener that may go f deep
     abbrev Opener : ℕ → (ℕ → State S B → State S B) → Type 0
     Opener f go =
-        (u : ℕ) (s : State S B) → Running s → s .mark u ≡ New → u < G .size → unseen (s .mark) (G .size) ≤ f → P u s (go u s) × Grow (s .mark)
-        (go u s .mark)
+        (u : ℕ) (s : State S B) → Running s → s .mark u ≡ New → u < G .size → unseen (s .mark) (G .size) ≤ f → Opened u s (go u s)
 
     edge-law : (f : ℕ) (go : ℕ → State S B → State S B) → Opener f go → (u v : ℕ) (s : State S B) → Running s → Member v (G .neighbors u)
-        → unseen (s .mark) (G .size) ≤ f → E u v s (edge V go u v s) × Grow (s .mark) (edge V go u v s .mark)
+        → unseen (s .mark) (G .size) ≤ f → Edged u v s (edge V go u v s)
     edge-law f go H u v s r i h = at (s .stop) r (s .mark v) refl
       where
         onward : (c : Control B) → V .reply (s .visitor) (TreeEdge u v) ≡ c → s .mark v ≡ New
-            → E u v s (if-continue c (report V (TreeEdge u v) s) (go v (report V (TreeEdge u v) s))) × Grow (s .mark) (if-continue c (report V (TreeEdge u v) s) (go v (report V (TreeEdge u v) s)) .mark)
+            → Edged u v s (if-continue c (report V (TreeEdge u v) s) (go v (report V (TreeEdge u v) s)))
         onward Continue e m =
             let p = H v (report V (TreeEdge u v) s) (ap stop-of e) m (W .below u v i) h in
             (L .tree-go u v s r i m e (go v (report V (TreeEdge u v) s)) (p .0), p .1)
@@ -78,7 +87,7 @@ module _ {S B : Type 0} (V : Visitor S B) (G : Meaning) where
         onward (Break b) e m = (L .tree-stay u v s r i m (subst Stays (sym e) tt), grow-refl (s .mark))
 
         at : (o : Option B) → o ≡ None → (m : Mark) → s .mark v ≡ m
-            → E u v s (unless-ended o s (read-marked V go u v m s)) × Grow (s .mark) (unless-ended o s (read-marked V go u v m s) .mark)
+            → Edged u v s (unless-ended o s (read-marked V go u v m s))
         at None q New e = onward (V .reply (s .visitor) (TreeEdge u v)) refl e
         at None q Open e = (L .back u v s r i e, grow-refl (s .mark))
         at None q Done e = (L .cross u v s r i e, grow-refl (s .mark))
@@ -86,23 +95,24 @@ module _ {S B : Type 0} (V : Visitor S B) (G : Meaning) where
 
     pub scan-law : (f : ℕ) (go : ℕ → State S B → State S B) → Opener f go → (u : ℕ) (vs : List ℕ) (s : State S B) → Running s
         → ((v : ℕ) → Member v vs → Member v (G .neighbors u)) → unseen (s .mark) (G .size) ≤ f
-        → Q u vs s (scan V go u vs s) × Grow (s .mark) (scan V go u vs s .mark)
+        → Scanned u vs s (scan V go u vs s)
     unfolding scan
     scan-law f go H u [] s r i h = (L .nil u s r, grow-refl (s .mark))
     scan-law f go H u (v ∷ vs) s r i h =
         let e = edge-law f go H u v s r (i v (inl refl)) h in
-        rest e (edge V go u v s .stop) refl (λ r′. scan-law f go H u vs (edge V go u v s) r′ (λ w j. i w (inr j)) (let k = unseen-grow (s .mark) (edge V go u v s .mark) (e .1) (G .size) in omega arith))
+        let k = unseen-grow (s .mark) (edge V go u v s .mark) (e .1) (G .size) in
+        rest e (edge V go u v s .stop) refl (λ r′. scan-law f go H u vs (edge V go u v s) r′ (λ w j. i w (inr j)) (omega arith))
       where
-        rest : E u v s (edge V go u v s) × Grow (s .mark) (edge V go u v s .mark) → (o : Option B) → edge V go u v s .stop ≡ o
-            → (Running (edge V go u v s) → Q u vs (edge V go u v s) (scan V go u vs (edge V go u v s)) × Grow (edge V go u v s .mark) (scan V go u vs (edge V go u v s) .mark))
-            → Q u (v ∷ vs) s (scan V go u vs (edge V go u v s)) × Grow (s .mark) (scan V go u vs (edge V go u v s) .mark)
+        rest : Edged u v s (edge V go u v s) → (o : Option B) → edge V go u v s .stop ≡ o
+            → (Running (edge V go u v s) → Scanned u vs (edge V go u v s) (scan V go u vs (edge V go u v s)))
+            → Scanned u (v ∷ vs) s (scan V go u vs (edge V go u v s))
         rest e None q ih =
             let p = ih q in (
               L .cons u v vs s (edge V go u v s) (scan V go u vs (edge V go u v s)) r (e .0) q (p .0),
               grow-trans (s .mark) (edge V go u v s .mark) (scan V go u vs (edge V go u v s) .mark) (e .1) (p .1),
             )
         rest e (Some b) q ih =
-            subst (λ t. Q u (v ∷ vs) s t × Grow (s .mark) (t .mark)) (sym (scan-ended go u vs (edge V go u v s) b q))
+            subst (Scanned u (v ∷ vs) s) (sym (scan-ended go u vs (edge V go u v s) b q))
             (L .halt u v vs s (edge V go u v s) r (e .0) b q, e .1)
 
     pub open-law : (f : ℕ) → Opener f (opening V G f)
@@ -115,13 +125,13 @@ module _ {S B : Type 0} (V : Visitor S B) (G : Meaning) where
 
         shut : (s′ : State S B) → Q u (G .neighbors u) (discover V u s) s′ → V .reply (s .visitor) (Discover u (s .time)) ≡ Continue
             → Grow (s .mark) (s′ .mark) → (o : Option B) → s′ .stop ≡ o
-            → P u s (unless-ended o s′ (finish V u s′)) × Grow (s .mark) (unless-ended o s′ (finish V u s′) .mark)
+            → Opened u s (unless-ended o s′ (finish V u s′))
         shut s′ q e g None z =
             (L .open-go u s r m l e s′ q z, grow-trans (s .mark) (s′ .mark) (mark-as u Done (s′ .mark)) g (grow-mark-as u Done (s′ .mark) tt))
         shut s′ q e g (Some b) z = (L .open-stop u s r m l e s′ q b z, g)
 
         by : (c : Control B) → V .reply (s .visitor) (Discover u (s .time)) ≡ c → Opener f (opening V G f)
-            → P u s (close V u (if-continue c (discover V u s) (scan V (opening V G f) u (G .neighbors u) (discover V u s)))) × Grow (s .mark) (close V u (if-continue c (discover V u s) (scan V (opening V G f) u (G .neighbors u) (discover V u s))) .mark)
+            → Opened u s (close V u (if-continue c (discover V u s) (scan V (opening V G f) u (G .neighbors u) (discover V u s))))
         by Continue e H =
             let w = unseen-mark-as u Open (s .mark) tt m (G .size) l in
             let p = scan-law f (opening V G f) H u (G .neighbors u) (discover V u s) (ap stop-of e) (λ v i. i) (omega arith) in
@@ -129,12 +139,12 @@ module _ {S B : Type 0} (V : Visitor S B) (G : Meaning) where
             shut s′ (p .0) e (grow-trans (s .mark) (mark-as u Open (s .mark)) (s′ .mark) grown (p .1)) (s′ .stop) refl
         by Prune e H =
             subst
-            (λ o. P u s (unless-ended o (discover V u s) (finish V u (discover V u s))) × Grow (s .mark) (unless-ended o (discover V u s) (finish V u (discover V u s)) .mark))
+            (λ o. Opened u s (unless-ended o (discover V u s) (finish V u (discover V u s))))
             (sym (ap stop-of e)) (
               L .open-prune u s r m l e,
               grow-trans (s .mark) (mark-as u Open (s .mark)) (mark-as u Done (mark-as u Open (s .mark))) grown (grow-mark-as u Done (mark-as u Open (s .mark)) tt),
             )
         by (Break b) e H =
             subst
-            (λ o. P u s (unless-ended o (discover V u s) (finish V u (discover V u s))) × Grow (s .mark) (unless-ended o (discover V u s) (finish V u (discover V u s)) .mark))
+            (λ o. Opened u s (unless-ended o (discover V u s) (finish V u (discover V u s))))
             (sym (ap stop-of e)) (L .open-halt u s r m l b e, grown)

@@ -33,7 +33,7 @@ module _ (out : ℕ → List ℕ) (step : ℕ → ℕ → Type 0) (listed : (a b
   end here e = refl
   end (on s w) e = absurd (omega arith)
 
-  -- whether Some block of the list is a first step of a way of k more
+  -- whether some block of the list is a first step of a way of k more
   any-of : (k a b : ℕ) → ((x : ℕ) → Dec (Way step x k b)) → (vs : List ℕ) → ((v : ℕ) → Member v vs → Member v (out a))
       → Dec ((x : ℕ) × Member x vs × step a x × Way step x k b)
   any-of k a b d [] i = no (λ h. absurd (h .1))

@@ -1,12 +1,12 @@
--- Marks: mark-asing one block, what grows, and how many blocks are still new.
+-- Marks: one block marked, what grows, and how many blocks are still new.
+use borrow.Author.Tests.{eq-eqb, ne-eqb}
 use native.Mathlib.Decide.{ℕ-discrete}
 use native.Mathlib.Nat.{not-suc-le-zero}
 use native.Mathlib.Omega.{arith}
-use mathlib.Core.Bool.{Bool, true, false, cond}
+use mathlib.Core.Bool.{cond}
 use mathlib.Core.Logic.{_⊎_, inl, inr, _≢_}
 use mathlib.Core.Path.{_≡_, refl, sym, _∙_, ap, subst}
 use Prim.Native.Nat.{ℕ, zero, suc, _+_, _≤_, _<_}
-use lib.Dec.{T, eqb, eqb→eq, eqb-refl}
 use Rattle.walk.specs.declared.mark.Mark.{Mark}
 use Rattle.walk.specs.declared.mark.Mark.the-variants.{New, Open, Done}
 use Rattle.walk.specs.Marks.{mark-as, one-if-new, unseen}
@@ -22,25 +22,11 @@ Grow f g = (w : ℕ) → Seen (f w) → Seen (g w)
 pub same-or-not : (w u : ℕ) → (w ≡ u) ⊎ (w ≢ u)
 same-or-not w u = elim (ℕ-discrete w u) [ yes e ↦ inl e | no d ↦ inr d ]
 
-T-true : (b : Bool) → T b → b ≡ true
-T-true true t = refl
-T-true false t = absurd t
-
-not-T-false : (b : Bool) → (T b → ⊥) → b ≡ false
-not-T-false true t = absurd (t tt)
-not-T-false false t = refl
-
-pub eqb-same : (u : ℕ) → eqb u u ≡ true
-eqb-same u = T-true (eqb u u) (eqb-refl u)
-
-pub eqb-other : (w u : ℕ) → w ≢ u → eqb w u ≡ false
-eqb-other w u d = not-T-false (eqb w u) (λ t. d (eqb→eq w u t))
-
 pub mark-as-same : (u : ℕ) (m : Mark) (f : ℕ → Mark) → mark-as u m f u ≡ m
-mark-as-same u m f = ap (λ b. cond b m (f u)) (eqb-same u)
+mark-as-same u m f = ap (λ b. cond b m (f u)) (eq-eqb u u refl)
 
 pub mark-as-other : (u : ℕ) (m : Mark) (f : ℕ → Mark) (w : ℕ) → w ≢ u → mark-as u m f w ≡ f w
-mark-as-other u m f w d = ap (λ b. cond b m (f w)) (eqb-other w u d)
+mark-as-other u m f w d = ap (λ b. cond b m (f w)) (ne-eqb w u d)
 
 pub grow-refl : (f : ℕ → Mark) → Grow f f
 grow-refl f w h = h

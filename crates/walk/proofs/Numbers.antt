@@ -1,4 +1,5 @@
 -- The law of the numbers.
+use borrow.Author.Tests.{eq-eqb, ne-eqb}
 use native.Mathlib.Omega.{arith}
 use mathlib.Core.Bool.{cond}
 use mathlib.Core.List.{List, [], _∷_}
@@ -18,7 +19,7 @@ use Rattle.walk.specs.NumbersOnce.{Numbered}
 use Rattle.walk.specs.Walk.{Visitor, Report, State, report, discover, finish, begin, walk}
 use Rattle.walk.proofs.Cases.{event-of, run-stop}
 use Rattle.walk.proofs.Induct.{Running}
-use Rattle.walk.proofs.Marks.{same-or-not, eqb-same, eqb-other, mark-as-same, mark-as-other}
+use Rattle.walk.proofs.Marks.{same-or-not, mark-as-same, mark-as-other}
 use Rattle.walk.proofs.Starts.{Blocks, Across, across}
 
 -- k - 1, …, 0
@@ -28,14 +29,14 @@ down (suc k) = k ∷ down k
 
 pub count-same : (t : ℕ) (xs : List ℕ) → count t (t ∷ xs) ≡ suc (count t xs)
 unfolding count
-count-same t xs = ap (λ b. cond b 1 0 + count t xs) (eqb-same t) ∙ one-more (count t xs)
+count-same t xs = ap (λ b. cond b 1 0 + count t xs) (eq-eqb t t refl) ∙ one-more (count t xs)
   where
     one-more : (n : ℕ) → 1 + n ≡ suc n
     one-more n = omega arith
 
 pub count-other : (t x : ℕ) (xs : List ℕ) → t ≢ x → count t (x ∷ xs) ≡ count t xs
 unfolding count
-count-other t x xs d = ap (λ b. cond b 1 0 + count t xs) (eqb-other t x d) ∙ no-more (count t xs)
+count-other t x xs d = ap (λ b. cond b 1 0 + count t xs) (ne-eqb t x d) ∙ no-more (count t xs)
   where
     no-more : (n : ℕ) → 0 + n ≡ n
     no-more n = omega arith

@@ -1,11 +1,12 @@
 -- The law of reach.
+use borrow.Author.Tests.{eq-eqb, ne-eqb, eqb-true}
 use native.Mathlib.Omega.{arith}
 use mathlib.Core.Bool.{Bool, true, false, cond, false≢true, Bool-discrete}
 use mathlib.Core.List.{[], _∷_}
 use mathlib.Core.Logic.{_⊎_, inl, inr, _≢_, _↔_}
 use mathlib.Core.Path.{_≡_, refl, sym, _∙_, ap, subst}
 use Prim.Native.Nat.{ℕ, suc, _<_}
-use lib.Dec.{eqb, T, eqb→eq}
+use lib.Dec.{eqb}
 use Rattle.std.specs.declared.option.Option.{Option}
 use Rattle.std.specs.declared.option.Option.the-variants.{None, Some}
 use Rattle.std.specs.Options.{valueOr}
@@ -20,12 +21,9 @@ use Rattle.walk.specs.Walk.{State, walk, if-continue}
 use Rattle.walk.specs.Ways.{Way, here, on, Distance}
 use Rattle.walk.proofs.Cases.{event-of}
 use Rattle.walk.proofs.Least.{distance}
-use Rattle.walk.proofs.Marks.{same-or-not, eqb-same, eqb-other, mark-as-other}
+use Rattle.walk.proofs.Marks.{same-or-not, mark-as-other}
 use Rattle.walk.proofs.Seek.{Seeks, seek, Answer}
 use Rattle.walk.proofs.Ways.{way-map}
-
-eq-of-eqb : (a b : ℕ) → eqb a b ≡ true → a ≡ b
-eq-of-eqb a b e = eqb→eq a b (subst T (sym e) tt)
 
 -- the step may be taken
 abbrev Free : Meaning → (ℕ → Control Bool) → ℕ → ℕ → Type 0
@@ -52,7 +50,7 @@ tree-go (Break x) p t h = let z : _≡_ {A = ℕ} 0 1 = cc in absurd (omega arit
 
 module _ (G : Meaning) (F : ℕ → Control Bool) (n : NeverStops F) where
   reach-found : (to : ℕ) (m : Mark) (u v : ℕ) (b : Bool) → reach-reply G F to (event-of m u v) ≡ Break b → Free G F u v × (v ≡ to) × (b ≡ true)
-  reach-found to New u v b h = let t = tree-break (F u) (G .permitted u v) (eqb v to) b (n u) h in ((t .0, t .1), eq-of-eqb v to (t .2), t .3)
+  reach-found to New u v b h = let t = tree-break (F u) (G .permitted u v) (eqb v to) b (n u) h in ((t .0, t .1), eqb-true v to (t .2), t .3)
   reach-found to Open u v b h = let z : _≡_ {A = ℕ} 0 1 = cc in absurd (omega arith)
   reach-found to Done u v b h = let z : _≡_ {A = ℕ} 0 1 = cc in absurd (omega arith)
 
@@ -61,9 +59,9 @@ module _ (G : Meaning) (F : ℕ → Control Bool) (n : NeverStops F) where
     keep = λ x e g. tt;
     at-block = λ x v t g. refl;
     at-finish = λ x v t g. refl;
-    hit = λ x u g o. (true, tells (F u) (G .permitted u to) (eqb to to) (o .1) (o .0) (eqb-same to));
+    hit = λ x u g o. (true, tells (F u) (G .permitted u to) (eqb to to) (o .1) (o .0) (eq-eqb to to refl));
     found = λ x m u v g b h. reach-found to m u v b h;
-    go = λ x u v g o d. goes (F u) (G .permitted u v) (eqb v to) (o .1) (o .0) (eqb-other v to d);
+    go = λ x u v g o d. goes (F u) (G .permitted u v) (eqb v to) (o .1) (o .0) (ne-eqb v to d);
     may = λ x u v g h. tree-go (F u) (G .permitted u v) (eqb v to) h;
   }
     where
@@ -117,10 +115,10 @@ module _ (G : Meaning) (F : ℕ → Control Bool) (n : NeverStops F) where
     by : (a ≡ b) ⊎ (a ≢ b) → (reachable G F a b ≡ true) ↔ ((k : ℕ) × Distance (Passing G F) a b k)
     by (inl e) = (
       λ _. nearest 0 (subst (λ x. Way (Passing G F) a 0 x) e here),
-      λ _. ap (λ t. cond t true (valueOr (end .stop) false)) (ap (eqb a) (sym e) ∙ eqb-same a),
+      λ _. ap (λ t. cond t true (valueOr (end .stop) false)) (ap (eqb a) (sym e) ∙ eq-eqb a a refl),
     )
     by (inr d) =
-        subst (λ t. (cond t true (valueOr (end .stop) false) ≡ true) ↔ ((k : ℕ) × Distance (Passing G F) a b k)) (sym (eqb-other a b d))
+        subst (λ t. (cond t true (valueOr (end .stop) false) ≡ true) ↔ ((k : ℕ) × Distance (Passing G F) a b k)) (sym (ne-eqb a b d))
         (other d (end .stop) refl)
 
 pub reach-law : (G : Meaning) → Sound G → (F : ℕ → Control Bool) (a b : ℕ) → a < G .size → ReachIsDistance G F a b (reachable G F a b)

@@ -18,10 +18,12 @@ module _ {S T B : Type 0} (V : Visitor S B) (U : Visitor T B) (h : S → T) (rep
   abbrev carry : State S B → State T B
   carry s = record { mark = s .mark; time = s .time; visitor = h (s .visitor); log = s .log; stop = s .stop }
 
+  abbrev reported : DfsEvent → State S B → T → Control B → State T B
+  reported e s y c = record { mark = s .mark; time = s .time; visitor = y; log = record { event = e; reply = c } ∷ s .log; stop = stop-of c }
+
   report-carry : (e : DfsEvent) (s : State S B) → report U e (carry s) ≡ carry (report V e s)
   report-carry e s =
-      ap (λ y. record { mark = s .mark; time = s .time; visitor = y; log = record { event = e; reply = U .reply (h (s .visitor)) e } ∷ s .log; stop = stop-of (U .reply (h (s .visitor)) e) }) (moves (s .visitor) e)
-      ∙ ap (λ c. record { mark = s .mark; time = s .time; visitor = h (V .next (s .visitor) e); log = record { event = e; reply = c } ∷ s .log; stop = stop-of c }) (replies (s .visitor) e)
+      ap (λ y. reported e s y (U .reply (h (s .visitor)) e)) (moves (s .visitor) e) ∙ ap (reported e s (h (V .next (s .visitor) e))) (replies (s .visitor) e)
 
   abbrev Alike : (ℕ → State S B → State S B) → (ℕ → State T B → State T B) → Type 0
   Alike go go′ = (v : ℕ) (s : State S B) → go′ v (carry s) ≡ carry (go v s)

@@ -1,4 +1,4 @@
--- A search: a walk whose visitor keeps to Some steps and breaks at a target. It breaks exactly when such steps lead to the target.
+-- A search: a walk whose visitor keeps to some steps and breaks at a target. It breaks exactly when such steps lead to the target.
 use native.Mathlib.Omega.{arith}
 use mathlib.Core.List.{List, [], _∷_}
 use mathlib.Core.Logic.{inl, inr, _≢_}
@@ -75,11 +75,14 @@ module _ {S B : Type 0} (V : Visitor S B) (G : Meaning) (ok : ℕ → ℕ → Ty
 
   module _ (K : Seeks) where
     -- an event that changes no mark
-    told : (e : DfsEvent) (s : State S B) → Known s → Known (report V e s)
-    told e s k = record { good = K .keep (s .visitor) e (k .good); reached = k .reached; target = k .target; settled = k .settled }
+    known-report : (e : DfsEvent) (s : State S B) → Known s → Known (report V e s)
+    known-report e s k = record { good = K .keep (s .visitor) e (k .good); reached = k .reached; target = k .target; settled = k .settled }
 
     settle-grow : (f g : ℕ → Mark) → Grow f g → (u v : ℕ) → Settled f u v → Settled g u v
     settle-grow f g h u v a o = (h v (a o .0), a o .1)
+
+    settle-mark : (u : ℕ) (m : Mark) → Seen m → (f : ℕ → Mark) (x v : ℕ) → Settled f x v → Settled (mark-as u m f) x v
+    settle-mark u m t f x v a = settle-grow f (mark-as u m f) (grow-mark-as u m f t) x v a
 
     -- the target is met marked m₀, so an edge to it ends the walk
     not-target : (u v : ℕ) (s : State S B) (m : Mark) → Known s → s .mark v ≡ m → ok u v → stop-of (V .reply (s .visitor) (event-of m u v)) ≡ None
@@ -87,7 +90,9 @@ module _ {S B : Type 0} (V : Visitor S B) (G : Meaning) (ok : ℕ → ℕ → Ty
     not-target u v s m k e o r d =
         let c = K .hit (s .visitor) u (k .good) (subst (ok u) d o) in
         let q : m₀ ≡ m = sym (k .target) ∙ sym (ap (s .mark) d) ∙ e in
-        run-stop (stop-of (V .reply (s .visitor) (event-of m u v))) (c .0) r (ap stop-of (subst (λ x. V .reply (s .visitor) (event-of m u x) ≡ Break (c .0)) (sym d) (subst (λ x. V .reply (s .visitor) (event-of x u to) ≡ Break (c .0)) q (c .1))))
+        let said : V .reply (s .visitor) (event-of m u to) ≡ Break (c .0) = subst (λ x. V .reply (s .visitor) (event-of x u to) ≡ Break (c .0)) q (c .1) in
+        let met : V .reply (s .visitor) (event-of m u v) ≡ Break (c .0) = subst (λ x. V .reply (s .visitor) (event-of m u x) ≡ Break (c .0)) (sym d) said in
+        run-stop (stop-of (V .reply (s .visitor) (event-of m u v))) (c .0) r (ap stop-of met)
 
     break-of : (c : Control B) (b : B) → stop-of c ≡ Some b → c ≡ Break b
     break-of Continue b h = absurd (run-stop None b refl h)
@@ -104,8 +109,11 @@ module _ {S B : Type 0} (V : Visitor S B) (G : Meaning) (ok : ℕ → ℕ → Ty
     law-tree-stay : (u v : ℕ) (s : State S B) → Running V G s → Member v (G .neighbors u) → s .mark v ≡ New
         → Stays V G (V .reply (s .visitor) (TreeEdge u v)) → E u v s (report V (TreeEdge u v) s)
     law-tree-stay u v s r i m t k o w = (
-      λ r′.
-          (told (TreeEdge u v) s k, steady-refl (s .mark), λ a. let d = not-target u v s New k m a r′ in absurd (subst (Stays V G) (K .go (s .visitor) u v (k .good) a d) t)),
+      λ r′. (
+        known-report (TreeEdge u v) s k,
+        steady-refl (s .mark),
+        λ a. absurd (subst (Stays V G) (K .go (s .visitor) u v (k .good) a (not-target u v s New k m a r′)) t),
+      ),
       broke New u v s k i w,
     )
 
@@ -114,18 +122,18 @@ module _ {S B : Type 0} (V : Visitor S B) (G : Meaning) (ok : ℕ → ℕ → Ty
     law-tree-go u v s r i m c s′ p k o w =
         let a = K .may (s .visitor) u v (k .good) c in
         let d = not-target u v s New k m a (ap stop-of c) in
-        let x = p d (told (TreeEdge u v) s k) (suc (w .0), snoc (w .1) (i, a)) in
+        let x = p d (known-report (TreeEdge u v) s k) (suc (w .0), snoc (w .1) (i, a)) in
         (λ r′. let y = x .0 r′ in (y .0, y .1, λ _. (is-seen (s′ .mark v) Done tt (y .2), d)), x .1)
 
     law-back : (u v : ℕ) (s : State S B) → Running V G s → Member v (G .neighbors u) → s .mark v ≡ Open → E u v s (report V (BackEdge u v) s)
     law-back u v s r i m k o w = (
-      λ r′. (told (BackEdge u v) s k, steady-refl (s .mark), λ a. (is-seen (s .mark v) Open tt m, not-target u v s Open k m a r′)),
+      λ r′. (known-report (BackEdge u v) s k, steady-refl (s .mark), λ a. (is-seen (s .mark v) Open tt m, not-target u v s Open k m a r′)),
       broke Open u v s k i w,
     )
 
     law-cross : (u v : ℕ) (s : State S B) → Running V G s → Member v (G .neighbors u) → s .mark v ≡ Done → E u v s (report V (CrossForwardEdge u v) s)
     law-cross u v s r i m k o w = (
-      λ r′. (told (CrossForwardEdge u v) s k, steady-refl (s .mark), λ a. (is-seen (s .mark v) Done tt m, not-target u v s Done k m a r′)),
+      λ r′. (known-report (CrossForwardEdge u v) s k, steady-refl (s .mark), λ a. (is-seen (s .mark v) Done tt m, not-target u v s Done k m a r′)),
       broke Done u v s k i w,
     )
 
@@ -160,7 +168,7 @@ module _ {S B : Type 0} (V : Visitor S B) (G : Meaning) (ok : ℕ → ℕ → Ty
           λ x e v i.
           elim (same-or-not x u) [
             | inl h ↦ absurd (open-done (mark-as u Open (s .mark) x) (ap (mark-as u Open (s .mark)) h ∙ mark-as-same u Open (s .mark)) e)
-            | inr n ↦ settle-grow (s .mark) (mark-as u Open (s .mark)) (grow-mark-as u Open (s .mark) tt) x v (k .settled x (sym (mark-as-other u Open (s .mark) x n) ∙ e) v i)
+            | inr n ↦ settle-mark u Open tt (s .mark) x v (k .settled x (sym (mark-as-other u Open (s .mark) x n) ∙ e) v i)
           ];
     }
 
@@ -175,8 +183,8 @@ module _ {S B : Type 0} (V : Visitor S B) (G : Meaning) (ok : ℕ → ℕ → Ty
       settled =
           λ x e v i.
           elim (same-or-not x u) [
-            | inl h ↦ settle-grow (s .mark) (mark-as u Done (s .mark)) (grow-mark-as u Done (s .mark) tt) x v (subst (λ y. Settled (s .mark) y v) (sym h) (a v (subst (λ y. Member v (G .neighbors y)) h i)))
-            | inr n ↦ settle-grow (s .mark) (mark-as u Done (s .mark)) (grow-mark-as u Done (s .mark) tt) x v (k .settled x (sym (mark-as-other u Done (s .mark) x n) ∙ e) v i)
+            | inl h ↦ settle-mark u Done tt (s .mark) x v (subst (λ y. Settled (s .mark) y v) (sym h) (a v (subst (λ y. Member v (G .neighbors y)) h i)))
+            | inr n ↦ settle-mark u Done tt (s .mark) x v (k .settled x (sym (mark-as-other u Done (s .mark) x n) ∙ e) v i)
           ];
     }
 
@@ -236,8 +244,10 @@ module _ {S B : Type 0} (V : Visitor S B) (G : Meaning) (ok : ℕ → ℕ → Ty
         by : (m : Mark) → s .mark x ≡ m → Seen m → Settled (s .mark) x v
         by New e t′ = absurd t′
         by Open e t′ =
-            elim
-            (same-or-not x source) [ inl d ↦ subst (λ y. Settled (s .mark) y v) (sym d) (q v (subst (λ y. Member v (G .neighbors y)) d i)) | inr d ↦ absurd (r x .1 (mark-as-other source Open (λ w. New) x d) e) ]
+            elim (same-or-not x source) [
+              | inl d ↦ subst (λ y. Settled (s .mark) y v) (sym d) (q v (subst (λ y. Member v (G .neighbors y)) d i))
+              | inr d ↦ absurd (r x .1 (mark-as-other source Open (λ w. New) x d) e)
+            ]
         by Done e t′ = k .settled x e v i
 
     abbrev pub Answer : State S B → Type 0
@@ -281,7 +291,8 @@ module _ {S B : Type 0} (V : Visitor S B) (G : Meaning) (ok : ℕ → ℕ → Ty
               ];
         }
 
-        both : (Running V G s₂ → Known s₂ × Steady (s₁ .mark) (s₂ .mark) × ((x : ℕ) → Member x (G .neighbors source) → Settled (s₂ .mark) source x)) × ((b : B) → s₂ .stop ≡ Some b → Right b × Hit)
+        both : (Running V G s₂ → Known s₂ × Steady (s₁ .mark) (s₂ .mark) × ((x : ℕ) → Member x (G .neighbors source) → Settled (s₂ .mark) source x))
+            × ((b : B) → s₂ .stop ≡ Some b → Right b × Hit)
         both = q known (mark-as-same source Open (λ w. New)) (0, here)
 
         shut : (o : Option B) → s₂ .stop ≡ o → Answer (unless-ended o s₂ (finish V source s₂))

@@ -52,7 +52,7 @@ module _ {S B : Type 0} (V : Visitor S B) (G : Meaning) where
     pub pair : (x y d e : ℕ) → Discovered (s .log) x d → Discovered (s .log) y e → d < e
         → ((f : ℕ) × Finished (s .log) x f × (f < e)) ⊎ Leads (s .log) x y
 
-  -- u is open, and what else is open nests above it
+  -- u is open, and what else is open lies above it
   abbrev pub Top : ℕ → State S B → Type 0
   Top u s = (s .mark u ≡ Open) × ((x : ℕ) → s .mark x ≡ Open → (x ≡ u) ⊎ Leads (s .log) x u)
 

@@ -31,5 +31,8 @@ steady-grow f g a w t = subst Seen (sym (a w .0 t)) t
 pub steady-wrap : (u : ℕ) (f g : ℕ → Mark) → f u ≡ New → Steady (mark-as u Open f) g → Steady f (mark-as u Done g)
 steady-wrap u f g e a w = elim (same-or-not w u) [
   | inl d ↦ (λ t. absurd (new-seen (f w) (ap f d ∙ e) t), λ p q. open-done (mark-as u Done g w) q (ap (mark-as u Done g) d ∙ mark-as-same u Done g))
-  | inr d ↦ (λ t. mark-as-other u Done g w d ∙ a w .0 (subst Seen (sym (mark-as-other u Open f w d)) t) ∙ mark-as-other u Open f w d, λ p q. a w .1 (mark-as-other u Open f w d ∙ p) (sym (mark-as-other u Done g w d) ∙ q))
+  | inr d ↦ (
+    λ t. mark-as-other u Done g w d ∙ a w .0 (subst Seen (sym (mark-as-other u Open f w d)) t) ∙ mark-as-other u Open f w d,
+    λ p q. a w .1 (mark-as-other u Open f w d ∙ p) (sym (mark-as-other u Done g w d) ∙ q),
+  )
 ]

@@ -1,8 +1,8 @@
--- One turn of a loop over frames leaves the walk's result as it was; and what falls at each turn.
+-- One turn of a loop over the open blocks leaves the walk's end as it was.
 use native.Mathlib.Omega.{arith}
 use mathlib.Core.List.{List, [], _∷_}
 use mathlib.Core.Path.{_≡_, refl, sym, _∙_, ap, subst}
-use Prim.Native.Nat.{ℕ, suc, _+_, _-_, _≤_, _<_}
+use Prim.Native.Nat.{ℕ, suc, _-_, _<_}
 use lib.ListN.{length}
 use Rattle.std.specs.declared.option.Option.the-variants.{Some}
 use Rattle.graph.specs.Meaning.{Meaning}
@@ -11,12 +11,10 @@ use Rattle.walk.specs.declared.event.Control.the-variants.{Continue, Prune, Br
 use Rattle.walk.specs.declared.event.DfsEvent.the-variants.{Discover, TreeEdge}
 use Rattle.walk.specs.declared.mark.Mark.{Mark}
 use Rattle.walk.specs.declared.mark.Mark.the-variants.{New, Open, Done}
-use Rattle.walk.specs.Marks.{unseen}
 use Rattle.walk.specs.OpenBlocks.{OpenBlock, unwind}
 use Rattle.walk.specs.Walk.{Visitor, State, stop-of, report, discover, finish, close, scan, opening, read-marked, if-continue, unless-ended}
 use Rattle.walk.proofs.Cases.{event-of}
 use Rattle.walk.proofs.Induct.{Running, Stays, scan-ended, edge-marked}
-use Rattle.walk.proofs.Marks.{unseen-mark-as}
 
 module _ {S B : Type 0} (V : Visitor S B) (G : Meaning) where
   -- once ended, nothing more is done
@@ -70,7 +68,8 @@ module _ {S B : Type 0} (V : Visitor S B) (G : Meaning) where
       more = omega arith
 
       by : (c : Control B) → V .reply (s .visitor) (Discover u (s .time)) ≡ c
-          → unwind V G fs (close V u (if-continue c (discover V u s) (scan V (opening V G (G .size - suc (length fs))) u (G .neighbors u) (discover V u s)))) ≡ after-discover u fs s c
+          → unwind V G fs (close V u (if-continue c (discover V u s) (scan V (opening V G (G .size - suc (length fs))) u (G .neighbors u) (discover V u s))))
+          ≡ after-discover u fs s c
       by Continue e = refl
       by Prune e = ap (λ c. unwind V G fs (unless-ended (stop-of c) (discover V u s) (finish V u (discover V u s)))) e
       by (Break b) e =
@@ -80,7 +79,8 @@ module _ {S B : Type 0} (V : Visitor S B) (G : Meaning) where
   -- a neighbour that is opened
   pub turn-enter : (u v : ℕ) (vs : List ℕ) (fs : List OpenBlock) (s : State S B) → Running V G s → s .mark v ≡ New
       → V .reply (s .visitor) (TreeEdge u v) ≡ Continue
-      → unwind V G (record { block = u; rest = v ∷ vs } ∷ fs) s ≡ unwind V G (record { block = u; rest = vs } ∷ fs) (opening V G (G .size - suc (length fs)) v (report V (TreeEdge u v) s))
+      → unwind V G (record { block = u; rest = v ∷ vs } ∷ fs) s
+      ≡ unwind V G (record { block = u; rest = vs } ∷ fs) (opening V G (G .size - suc (length fs)) v (report V (TreeEdge u v) s))
   unfolding unwind scan
   turn-enter u v vs fs s r e c =
       ap (λ x. unwind V G fs (close V u (scan V go u vs x)))
@@ -88,8 +88,3 @@ module _ {S B : Type 0} (V : Visitor S B) (G : Meaning) where
     where
       go : ℕ → State S B → State S B
       go = opening V G (G .size - suc (length fs))
-
-  -- there is room for one more frame: frames and new blocks together are at most the blocks
-  pub room : (u k : ℕ) (s : State S B) → k + unseen (s .mark) (G .size) ≤ G .size → s .mark u ≡ New → u < G .size
-      → (k < G .size) × (suc k + unseen (discover V u s .mark) (G .size) ≤ G .size)
-  room u k s h m l = let w = unseen-mark-as u Open (s .mark) tt m (G .size) l in (omega arith, omega arith)

@@ -10,10 +10,10 @@ use Prim.Native.Nat.{ℕ}
 use lib.Dec.{eqb}
 use Rattle.std.specs.Options.{isSome}
 use Rattle.graph.specs.Meaning.{Meaning, Member}
-use Rattle.walk.specs.declared.event.DfsEvent.{DfsEvent}
-use Rattle.walk.specs.declared.event.DfsEvent.the-variants.{Discover, TreeEdge, BackEdge, CrossForwardEdge, Finish}
 use Rattle.walk.specs.declared.event.Control.{Control}
 use Rattle.walk.specs.declared.event.Control.the-variants.{Continue, Break}
+use Rattle.walk.specs.declared.event.DfsEvent.{DfsEvent}
+use Rattle.walk.specs.declared.event.DfsEvent.the-variants.{Discover, TreeEdge, BackEdge, CrossForwardEdge, Finish}
 use Rattle.walk.specs.Walk.{Visitor, walk}
 
 abbrev pub cycle-reply : ℕ → DfsEvent → Control (Unit {0})

@@ -5,8 +5,8 @@ use mathlib.Core.List.{List}
 use mathlib.Core.Path.{_≡_}
 use Prim.Native.Nat.{ℕ, _*_, _≤_, _<_}
 use lib.ListN.{length}
-use Rattle.walk.specs.Walk.{Report}
 use Rattle.walk.specs.Numbers.{count, found, numbers}
+use Rattle.walk.specs.Walk.{Report}
 
 pub record Numbered {B : Type 0} (l : List (Report B)) : Type 0 where
   pub once : (u : ℕ) → count u (found l) ≤ 1

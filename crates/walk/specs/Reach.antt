@@ -13,10 +13,10 @@ use Prim.Native.Nat.{ℕ}
 use lib.Dec.{eqb}
 use Rattle.std.specs.Options.{valueOr}
 use Rattle.graph.specs.Meaning.{Meaning, Member}
-use Rattle.walk.specs.declared.event.DfsEvent.{DfsEvent}
-use Rattle.walk.specs.declared.event.DfsEvent.the-variants.{Discover, TreeEdge, BackEdge, CrossForwardEdge, Finish}
 use Rattle.walk.specs.declared.event.Control.{Control}
 use Rattle.walk.specs.declared.event.Control.the-variants.{Continue, Prune, Break}
+use Rattle.walk.specs.declared.event.DfsEvent.{DfsEvent}
+use Rattle.walk.specs.declared.event.DfsEvent.the-variants.{Discover, TreeEdge, BackEdge, CrossForwardEdge, Finish}
 use Rattle.walk.specs.Walk.{Visitor, if-continue, walk}
 
 abbrev pub step-reply : Bool → Bool → Control Bool

@@ -7,8 +7,8 @@ use mathlib.Core.Path.{_≡_}
 use Prim.Native.Nat.{ℕ}
 use Rattle.graph.specs.Meaning.{Meaning}
 use Rattle.walk.specs.declared.event.Control.{Control}
-use Rattle.walk.specs.Ways.{Distance}
 use Rattle.walk.specs.Reach.{Passing, NeverStops}
+use Rattle.walk.specs.Ways.{Distance}
 
 abbrev pub ReachIsDistance : Meaning → (ℕ → Control Bool) → ℕ → ℕ → Bool → Type 0
 ReachIsDistance G F a b answer = NeverStops F → (answer ≡ true) ↔ ((k : ℕ) × Distance (Passing G F) a b k)

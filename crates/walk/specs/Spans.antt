@@ -11,10 +11,10 @@ use mathlib.Core.List.{List, [], _∷_}
 use mathlib.Core.Logic.{_⊎_}
 use mathlib.Core.Path.{_≡_}
 use Prim.Native.Nat.{ℕ, suc}
-use Rattle.walk.specs.declared.event.DfsEvent.{DfsEvent}
-use Rattle.walk.specs.declared.event.DfsEvent.the-variants.{Discover, TreeEdge, BackEdge, CrossForwardEdge, Finish}
 use Rattle.walk.specs.declared.event.Control.{Control}
 use Rattle.walk.specs.declared.event.Control.the-variants.{Continue, Prune, Break}
+use Rattle.walk.specs.declared.event.DfsEvent.{DfsEvent}
+use Rattle.walk.specs.declared.event.DfsEvent.the-variants.{Discover, TreeEdge, BackEdge, CrossForwardEdge, Finish}
 use Rattle.walk.specs.Walk.{Report}
 use Rattle.walk.specs.Ways.{Way}
 

@@ -9,8 +9,8 @@ use mathlib.Core.Path.{_≡_}
 use Prim.Native.Nat.{ℕ, _<_}
 use Rattle.std.specs.declared.option.Option.{Option}
 use Rattle.std.specs.declared.option.Option.the-variants.{None}
-use Rattle.walk.specs.Walk.{Report}
 use Rattle.walk.specs.Spans.{Discovered, Leads, Span}
+use Rattle.walk.specs.Walk.{Report}
 
 abbrev pub Inside : ℕ → ℕ → ℕ → ℕ → Type 0
 Inside d f e g = (d < e) × (g < f)

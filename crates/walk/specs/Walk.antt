@@ -19,10 +19,10 @@ use Prim.Native.Nat.{ℕ, zero, suc}
 use Rattle.std.specs.declared.option.Option.{Option}
 use Rattle.std.specs.declared.option.Option.the-variants.{None, Some}
 use Rattle.graph.specs.Meaning.{Meaning}
-use Rattle.walk.specs.declared.event.DfsEvent.{DfsEvent}
-use Rattle.walk.specs.declared.event.DfsEvent.the-variants.{Discover, TreeEdge, BackEdge, CrossForwardEdge, Finish}
 use Rattle.walk.specs.declared.event.Control.{Control}
 use Rattle.walk.specs.declared.event.Control.the-variants.{Continue, Prune, Break}
+use Rattle.walk.specs.declared.event.DfsEvent.{DfsEvent}
+use Rattle.walk.specs.declared.event.DfsEvent.the-variants.{Discover, TreeEdge, BackEdge, CrossForwardEdge, Finish}
 use Rattle.walk.specs.declared.mark.Mark.{Mark}
 use Rattle.walk.specs.declared.mark.Mark.the-variants.{New, Open, Done}
 use Rattle.walk.specs.Marks.{mark-as}

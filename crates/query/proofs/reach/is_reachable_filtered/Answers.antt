@@ -41,8 +41,9 @@ returns-in-Ok g c =
     ∙ sym (c .in-rest .ensures tt) in
     let walked = c .in-Ok .ensures tt in
     let ended = accepted-stop (refused (G .size) one old room) _ (c .in-Ok .stop) (walked .answer) in
-    let is = c .unwrap-or .ensures
-    ∙ other-block G W old room F (c .args .from) (c .args .to) free _ (record { graph = c .args .graph; filter = c .args .filter; target = c .args .to }) (λ e. refl) (λ e. refl) (c .if-from-to .left) (c .in-Ok .stop) (ended .1) in
+    let other = other-block G W old room F (c .args .from) (c .args .to) free _
+    (record { graph = c .args .graph; filter = c .args .filter; target = c .args .to }) (λ e. refl) (λ e. refl) in
+    let is = c .unwrap-or .ensures ∙ other (c .if-from-to .left) (c .in-Ok .stop) (ended .1) in
     let said = reach-answered G W old room F (c .args .from) (c .args .to) free (c .unwrap-or .result) is in
     record {
       marks = c .set-depth-first-search .ensures .marks;

@@ -8,11 +8,13 @@ use Rattle.search.proofs.refuse.has_no_block.Needs as need
 
 pub returns-then-start-count : need.returns-then-start-count
 returns-then-start-count c =
-    sym (c .loop-start .inv ∙ any-here (λ u. not (ltb u (c .args .count))) (c .args .starts .now) (c .loop-start .start-index) (c .loop-start-test .taken) (ap not (le-ltb _ (c .args .count) (c .if-start-count .taken))))
+    let here = any-here (λ u. not (ltb u (c .args .count))) (c .args .starts .now) (c .loop-start .start-index) in
+    sym (c .loop-start .inv ∙ here (c .loop-start-test .taken) (ap not (le-ltb _ (c .args .count) (c .if-start-count .taken))))
 
 pub loop-start-again : need.loop-start-again
 loop-start-again c =
-    c .loop-start .inv ∙ any-later (λ u. not (ltb u (c .args .count))) (c .args .starts .now) (c .loop-start .start-index) (c .loop-start-test .taken) (ap not (lt-ltb _ (c .args .count) (c .if-start-count .left)))
+    let later = any-later (λ u. not (ltb u (c .args .count))) (c .args .starts .now) (c .loop-start .start-index) in
+    c .loop-start .inv ∙ later (c .loop-start-test .taken) (ap not (lt-ltb _ (c .args .count) (c .if-start-count .left)))
 
 pub returns : need.returns
 returns c =
