@@ -1,3 +1,3 @@
 // The open contexts, and the breaks and continues that wait in them.
-pub mod ctx;
+mod ctx;
 pub mod ctx_stack;

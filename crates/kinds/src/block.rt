@@ -18,7 +18,9 @@ pub enum ReturnInstructionKind {
 // Whether a break or a continue names a label.
 #[derive(Clone, Copy)]
 pub enum LabeledInstruction {
+    // it does
     Labeled,
+    // it does not, and leads out of the nearest context of its kind
     Unlabeled,
 }
 

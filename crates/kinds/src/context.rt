@@ -3,8 +3,11 @@
 // What a context is. With FUNCTION set, no search goes past it; with BREAK or CONTINUE, it takes entries of that kind by label.
 #[derive(Clone, Copy)]
 pub struct CtxFlags {
+    // FUNCTION
     pub function: bool,
+    // BREAK
     pub breaks: bool,
+    // CONTINUE
     pub continues: bool,
 }
 

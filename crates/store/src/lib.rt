@@ -2,4 +2,4 @@
 pub mod direction;
 pub mod edge_store;
 pub mod graph;
-pub mod link;
+mod link;

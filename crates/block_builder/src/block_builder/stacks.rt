@@ -35,7 +35,7 @@ fn lacks_mark(top: Option<Option<BlockNodeId>>) -> bool
 
 impl BlockBuilder {
     // The newest harness.
-    pub fn top_harness(&self) -> Option<ErrorHarness>
+    pub(super) fn top_harness(&self) -> Option<ErrorHarness>
         ensures value { λ r. ⌜ r ≡ last-of (state-of (now (self .entry)) .harnesses) ⌝ }
         ensures known { λ r. ⌜ BySome r (⊥ → ⊥) (λ h. h .block < block-count (state-of (now (self .entry)))) ⌝ }
     {
@@ -56,7 +56,7 @@ impl BlockBuilder {
     }
 
     // The finalizer that new blocks get an edge to, if there is one.
-    pub fn finalizer(&self) -> Option<BlockNodeId>
+    pub(super) fn finalizer(&self) -> Option<BlockNodeId>
         ensures value { λ r. ⌜ r ≡ finalizer-of (state-of (now (self .entry)) .finalizers) ⌝ }
         ensures known { λ r. ⌜ BySome r (⊥ → ⊥) (λ b. b < block-count (state-of (now (self .entry)))) ⌝ }
     {

@@ -40,7 +40,7 @@ fn without_target(entry: WaitingEntry, context: usize, ctx: Ctx) -> usize
 }
 
 // How many entries of the context have a target, and how many have none.
-pub fn counts(waiting: &[WaitingEntry], context: usize, ctx: Ctx) -> (usize, usize)
+pub(super) fn counts(waiting: &[WaitingEntry], context: usize, ctx: Ctx) -> (usize, usize)
     ensures drawn { λ r. ⌜ r .0 ≡ sumBy (draws context ctx) (now (waiting .entry)) ⌝ }
     ensures untargeted { λ r. ⌜ r .1 ≡ sumBy (lacks context ctx) (now (waiting .entry)) ⌝ }
 {
@@ -70,7 +70,7 @@ fn draw_one(graph: &mut BlockGraph, entry: WaitingEntry, context: usize, ctx: Ct
 }
 
 // Draws the Jump edges of the entries of the context, in their order.
-pub fn draw(graph: &mut BlockGraph, waiting: &[WaitingEntry], context: usize, ctx: Ctx)
+pub(super) fn draw(graph: &mut BlockGraph, waiting: &[WaitingEntry], context: usize, ctx: Ctx)
     requires blocks { ⌜ highest above-block (now waiting) ≤ length (graph-of (now graph) .marks) ⌝ }
     requires breaks { ⌜ code (ctx .«break_jmp») ≤ length (graph-of (now graph) .marks) ⌝ }
     requires continues { ⌜ code (ctx .«continue_jmp») ≤ length (graph-of (now graph) .marks) ⌝ }
@@ -84,7 +84,7 @@ pub fn draw(graph: &mut BlockGraph, waiting: &[WaitingEntry], context: usize, ct
 }
 
 // Takes the entries of one context out, and keeps the others in their order.
-pub fn release(waiting: &mut Vec<WaitingEntry>, context: usize)
+pub(super) fn release(waiting: &mut Vec<WaitingEntry>, context: usize)
     ensures items { λ _. ⌜ vec-items (now (waiting .exit)) ≡ kept-by (λ w. not (waits-in context w)) (vec-items (now (waiting .entry))) ⌝ }
     ensures capacity { λ _. ⌜ vec-cap (now (waiting .exit)) ≡ vec-cap (now (waiting .entry)) ⌝ }
 {
