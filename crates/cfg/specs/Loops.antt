@@ -1,6 +1,6 @@
 -- Which blocks start an infinite loop. Assumes nothing.
 --
---   is-jump, is-backedge k    whether an edge of the kind k is a Jump, a Backedge
+--   is-backedge k             whether an edge of the kind k is a Backedge
 --   fits q k                  whether the kind k is the one that is sought
 --   first-fit q es            the first of the edges es of the kind sought
 --   after-fit q es            those after it
@@ -27,18 +27,9 @@ use Rattle.kinds.specs.declared.refusal.Refusal.the-variants.{NoBlock, TwoBacke
 use Rattle.store.specs.Edges.{listed}
 use Rattle.store.specs.declared.direction.Direction.the-variants.{Outgoing, Incoming}
 use Rattle.blocks.specs.Blocks.{GraphState, instructions-in}
+use Rattle.book.specs.Ledger.{is-jump}
 use Rattle.cfg.specs.declared.loop_query.Sought.{Sought}
 use Rattle.cfg.specs.declared.loop_query.Sought.the-variants.{Jump, Backedge}
-
-abbrev pub is-jump : EdgeType → Bool
-is-jump edge.Jump = true
-is-jump edge.Normal = false
-is-jump edge.Backedge = false
-is-jump edge.NewFunction = false
-is-jump edge.Finalize = false
-is-jump (edge.Error e) = false
-is-jump edge.Unreachable = false
-is-jump edge.Join = false
 
 abbrev pub is-backedge : EdgeType → Bool
 is-backedge edge.Jump = false
