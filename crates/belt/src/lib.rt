@@ -1,4 +1,6 @@
 // The belt plan: segments, the transfers between them, and lockouts.
+#![tactic(auto)]
+
 pub mod edits;
 pub mod graph;
 pub mod plan;

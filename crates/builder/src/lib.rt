@@ -1,2 +1,4 @@
 // The control-flow graph builder.
+#![tactic(auto)]
+
 pub mod builder;

@@ -1,4 +1,6 @@
 // The calls of a call script: read from a line, and the text of their answers.
+#![tactic(auto)]
+
 mod block_calls;
 mod context_calls;
 mod instruction_calls;

@@ -1,4 +1,6 @@
 // The graph that a builder hands over, and what it answers.
+#![tactic(auto)]
+
 pub mod control_flow_graph;
 pub mod edges;
 pub mod evaluators;

@@ -1,2 +1,4 @@
 // The examples of the rules, as a table.
+#![tactic(auto)]
+
 pub mod table;

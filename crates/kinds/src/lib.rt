@@ -1,4 +1,6 @@
 // The names and numbers that every layer shares.
+#![tactic(auto)]
+
 pub mod block;
 pub mod context;
 pub mod edge;

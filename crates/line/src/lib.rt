@@ -1,4 +1,6 @@
 // The words, numbers and lists of a script's line.
+#![tactic(auto)]
+
 pub mod arguments;
 pub mod contexts;
 pub mod kind_names;

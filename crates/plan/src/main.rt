@@ -1,4 +1,6 @@
 // Reads a plan script from standard input, answers each line, and says in words what was done.
+#![tactic(auto)]
+
 mod session;
 
 use session::Session;

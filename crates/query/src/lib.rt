@@ -1,4 +1,6 @@
 // Reach under a filter, and cycles, each asked by one walk.
+#![tactic(auto)]
+
 pub mod cycle;
 pub mod filter;
 pub mod filters;

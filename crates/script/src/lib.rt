@@ -1,4 +1,6 @@
 // The words and numbers of a script's line.
+#![tactic(auto)]
+
 pub mod arguments;
 pub mod number;
 pub mod words;

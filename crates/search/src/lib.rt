@@ -1,4 +1,6 @@
 // The depth-first walk over any graph and any visitor.
+#![tactic(auto)]
+
 ghost use Rattle.std.specs.Prelude.{◌≡◌, length, None, Ok};
 ghost use Rattle.kinds.specs.Replies.{after, told};
 ghost use Rattle.walk.specs.DepthSuffices.{DepthSuffices};

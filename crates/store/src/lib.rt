@@ -1,4 +1,6 @@
 // The linked edge store: a node keeps its first edge in each direction, an edge the next one.
+#![tactic(auto)]
+
 pub mod direction;
 pub mod edge_store;
 pub mod graph;

@@ -1,4 +1,6 @@
 // Walks recorded event by event.
+#![tactic(auto)]
+
 ghost use Rattle.std.specs.Prelude.{◌≡◌, length};
 ghost use Rattle.kinds.specs.Replies.{after, told};
 ghost use Rattle.search.specs.Frames.{FramesAfter};

@@ -1,2 +1,4 @@
 // The text of answers, as a transcript has it.
+#![tactic(auto)]
+
 pub mod reply;
