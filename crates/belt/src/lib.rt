@@ -2,8 +2,8 @@
 #![tactic(auto)]
 
 pub mod edits;
-pub mod graph;
 pub mod plan;
+pub mod plan_graph;
 pub mod queries;
 pub mod segments;
 mod words;

@@ -2,6 +2,6 @@
 #![tactic(auto)]
 
 pub mod direction;
+pub mod edge_graph;
 pub mod edge_store;
-pub mod graph;
 mod link;

@@ -28,7 +28,7 @@ returns-in-Prune g c =
     let sound = g.G.Graph.sound c.args.graph.now in
     let heard = visits c.visit.ensures.reply c.visit.ensures.state in
     let few = sound.few in
-    let n = c.node-count.ensures in
+    let n = c.node_count.ensures in
     record {
       count = c.set.ensures.count;
       marks = c.set.ensures.marks;

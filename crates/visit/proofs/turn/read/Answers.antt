@@ -29,46 +29,46 @@ returns-in-Break g c =
     let heard = visits c.visit.ensures.reply c.visit.ensures.state in
     record { new = tt; reads = λ G t vs fs end l st. read_over V G New st (marked V G l st mark) heard c.in-Break.value c.in-Break.is }
 
-pub returns-in-err-visit : goal.returns-in-err-visit
-returns-in-err-visit g c =
+pub returns-in-Break-visit : goal.returns-in-Break-visit
+returns-in-Break-visit g c =
     let V = g.V.Visitor.meaning in
     let mark = c.in-Open.ensures in
     let heard = visits c.visit-in-Open.ensures.reply c.visit-in-Open.ensures.state in
     record {
       new =
           tt;
-      reads = λ G t vs fs end l st. read_over V G Open st (marked V G l st mark) heard c.in-err-visit.value c.in-err-visit.is;
+      reads = λ G t vs fs end l st. read_over V G Open st (marked V G l st mark) heard c.in-Break-visit.value c.in-Break-visit.is;
     }
 
-pub returns-in-ok-visit : goal.returns-in-ok-visit
-returns-in-ok-visit g c =
+pub returns-in-Continue-visit : goal.returns-in-Continue-visit
+returns-in-Continue-visit g c =
     let V = g.V.Visitor.meaning in
     let mark = c.in-Open.ensures in
     let v = c.visit-in-Open in
     let heard = visits v.ensures.reply v.ensures.state in
     record {
       new = tt;
-      reads = λ G t vs fs end l st. read_on V G Open st (marked V G l st mark) heard old_open (not_break v.result c.in-ok-visit.is);
+      reads = λ G t vs fs end l st. read_on V G Open st (marked V G l st mark) heard old_open (not_break v.result c.in-Continue-visit.is);
     }
 
-pub returns-in-err-visit-2 : goal.returns-in-err-visit-2
-returns-in-err-visit-2 g c =
+pub returns-in-Break-visit-2 : goal.returns-in-Break-visit-2
+returns-in-Break-visit-2 g c =
     let V = g.V.Visitor.meaning in
     let mark = c.in-Done.ensures in
     let v = c.visit-in-Done in
     let heard = visits v.ensures.reply v.ensures.state in
     record {
       new = tt;
-      reads = λ G t vs fs end l st. read_over V G Done st (marked V G l st mark) heard c.in-err-visit-2.value c.in-err-visit-2.is;
+      reads = λ G t vs fs end l st. read_over V G Done st (marked V G l st mark) heard c.in-Break-visit-2.value c.in-Break-visit-2.is;
     }
 
-pub returns-in-ok-visit-2 : goal.returns-in-ok-visit-2
-returns-in-ok-visit-2 g c =
+pub returns-in-Continue-visit-2 : goal.returns-in-Continue-visit-2
+returns-in-Continue-visit-2 g c =
     let V = g.V.Visitor.meaning in
     let mark = c.in-Done.ensures in
     let v = c.visit-in-Done in
     let heard = visits v.ensures.reply v.ensures.state in
     record {
       new = tt;
-      reads = λ G t vs fs end l st. read_on V G Done st (marked V G l st mark) heard old_done (not_break v.result c.in-ok-visit-2.is);
+      reads = λ G t vs fs end l st. read_on V G Done st (marked V G l st mark) heard old_done (not_break v.result c.in-Continue-visit-2.is);
     }

@@ -12,7 +12,7 @@ loop-row-preserved c =
     let rows = c.args.self.now.rows in
     let i = c.loop-row.row-index in
     let lt : i < length rows = search rules in
-    let fits = c.loop-row-test.element-fits.fits in
+    let fits = c.loop-row-test.element_fits.fits in
     elim c.if-row-ne0.branch [
       | then-row-ne0 w ↦
           let more = count_by_more_yes (λ p. ltb 0 (fed p)) rows i 0 lt (feeds (get_or rows i 0) fits w.if-row-ne0.true) in

@@ -11,6 +11,6 @@ returns c =
       plan = search rules;
       only = subst
           (λ word. LockIs c.args.set c.args.segment plan (record { rows = plan.rows; locked = word }))
-          (sym c.put-bit-self.ensures)
+          (sym c.put_bit-self.ensures)
           (lock_is plan c.args.segment c.args.set c.requires);
     }

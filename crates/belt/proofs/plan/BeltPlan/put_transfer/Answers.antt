@@ -12,6 +12,6 @@ returns c =
       plan = search rules;
       only = subst
           (λ row. TransferIs c.args.set c.args.from c.args.to plan (record { rows = set plan.rows c.args.from row; locked = plan.locked }))
-          (sym c.put-bit.ensures)
+          (sym c.put_bit.ensures)
           (transfer_is plan c.args.from c.args.to c.args.set c.requires.0 c.requires.1 full);
     }

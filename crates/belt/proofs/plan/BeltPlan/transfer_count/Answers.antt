@@ -7,10 +7,10 @@ use Rattle.belt.specs.Counts.{fed, transfers}
 use Rattle.belt.proofs.Fed.{fed_ones}
 use Rattle.belt.proofs.plan.BeltPlan.transfer_count.Goals as goal
 
-pub overflow-add-transfers : goal.overflow-add-transfers
-overflow-add-transfers c =
+pub overflow_add-transfers : goal.overflow_add-transfers
+overflow_add-transfers c =
     let row = get_or c.args.self.now.rows c.loop-row.row-index 0 in
-    let few = ones-le 64 row c.loop-row-test.element-fits.fits in
+    let few = ones-le 64 row c.loop-row-test.element_fits.fits in
     omega (arith, c.loop-row.invariant.1)
 
 pub loop-row-preserved : goal.loop-row-preserved
@@ -18,7 +18,7 @@ loop-row-preserved c =
     let rows = c.args.self.now.rows in
     let i = c.loop-row.row-index in
     let lt : i < length rows = search rules in
-    let fits = c.loop-row-test.element-fits.fits in
+    let fits = c.loop-row-test.element_fits.fits in
     let more = sum_by_more fed rows i 0 lt in
     let few = ones-le 64 (get_or rows i 0) fits in
     (omega (arith, fed_ones (get_or rows i 0) fits, c.loop-row.invariant.0), omega (arith, c.loop-row.invariant.1))

@@ -11,12 +11,12 @@ use Rattle.store.proofs.Linking.{length_edges, edges_push, firsts_edge, firsts_k
 use Rattle.store.proofs.Tables.{first_newest}
 use Rattle.store.proofs.edge_store.EdgeStore.add_edge.Goals as goal
 
-pub push-reserved-requires : goal.push-reserved-requires
-push-reserved-requires c =
+pub push_reserved-requires : goal.push_reserved-requires
+push_reserved-requires c =
     let s = c.args.self.now in omega (arith, c.requires.room, s.links_fit, s.links.ok.0, length_edges s.links.items)
 
-pub invariant-of-self : goal.invariant-of-self
-invariant-of-self c =
+pub invariant_of-self : goal.invariant_of-self
+invariant_of-self c =
     let s = c.args.self.now in
     let ns = s.nodes.items in
     let ls : List Link = s.links.items in
@@ -24,17 +24,17 @@ invariant-of-self c =
     let a = c.args.source in
     let b = c.args.target in
     let e : Edge = record { source = a; target = b; kind = c.args.kind } in
-    let q = c.push-reserved.ensures.items in
-    let more = c.push-reserved.new.self.items in
+    let q = c.push_reserved.ensures.items in
+    let more = c.push_reserved.new.self.items in
     let grown : es ++ e ∷ [] ≡ edges_in more = sym (ap edges_in q ∙ edges_push ls _) in
     let at : c.len-at.result ≡ length es = c.len-at.ensures ∙ s.links.ok.0 ∙ sym (length_edges ls) in
-    let n : Node = record { first_outgoing = Some c.len-at.result; first_incoming = c.index-mut.result.now.first_incoming } in
-    let m : Node = record { first_outgoing = c.index-mut-2.result.now.first_outgoing; first_incoming = Some c.len-at.result } in
+    let n : Node = record { first_outgoing = Some c.len-at.result; first_incoming = c.index_mut.result.now.first_incoming } in
+    let m : Node = record { first_outgoing = c.index_mut-2.result.now.first_outgoing; first_incoming = Some c.len-at.result } in
     let half = set ns a n in
     let whole = set half b m in
     let wide : length whole ≡ length ns = length-set half b m ∙ length-set ns a n in
     let out = firsts_edge Outgoing ns es e n (ap Some at) s.firsts_outgoing in
-    let kept = firsts_kept Incoming ns es a n c.index-mut.result.now c.index-mut.ensures.value refl s.firsts_incoming in
+    let kept = firsts_kept Incoming ns es a n c.index_mut.result.now c.index_mut.ensures.value refl s.firsts_incoming in
     let F : Direction → List Edge → Type 0 = λ d x. Firsts d whole x in
     let N : Direction → List Link → Type 0 = λ d x. Nexts d x in
     let W : Direction → List Link → Type 0 = λ d x. Within d whole x in
@@ -44,7 +44,7 @@ invariant-of-self c =
       (
         search rules,
         (
-          subst (F Outgoing) grown (firsts_kept Outgoing half (es ++ e ∷ []) b m c.index-mut-2.result.now c.index-mut-2.ensures.value refl out),
+          subst (F Outgoing) grown (firsts_kept Outgoing half (es ++ e ∷ []) b m c.index_mut-2.result.now c.index_mut-2.ensures.value refl out),
           (
             subst (F Incoming) grown (firsts_edge Incoming half es e m (ap Some at) kept),
             (
@@ -67,5 +67,5 @@ invariant-of-self c =
 pub returns : goal.returns
 returns c =
     let es = edges_of c.args.self.now in
-    let e = ap edges_in c.push-reserved.ensures.items ∙ edges_push c.args.self.now.links.items _ in
+    let e = ap edges_in c.push_reserved.ensures.items ∙ edges_push c.args.self.now.links.items _ in
     record { nodes = search rules; edges = e; count = ap length e ∙ length_push es _ }

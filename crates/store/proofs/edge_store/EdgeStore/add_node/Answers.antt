@@ -6,12 +6,12 @@ use Rattle.store.specs.declared.link.Node.{Node}
 use Rattle.store.proofs.Linking.{firsts_node, within_node}
 use Rattle.store.proofs.edge_store.EdgeStore.add_node.Goals as goal
 
-pub invariant-of-self : goal.invariant-of-self
-invariant-of-self c =
+pub invariant_of-self : goal.invariant_of-self
+invariant_of-self c =
     let s = c.args.self.now in
     let ns = s.nodes.items in
     let ls = s.links.items in
-    let e = sym c.push-reserved.ensures.items in
+    let e = sym c.push_reserved.ensures.items in
     let F : Direction → List Node → Type 0 = λ d x. Firsts d x (edges_in ls) in
     let W : Direction → List Node → Type 0 = λ d x. Within d x ls in (
       search rules,

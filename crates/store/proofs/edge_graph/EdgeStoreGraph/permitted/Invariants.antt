@@ -3,7 +3,7 @@ use Rattle.store.specs.Edges.{listed, rest}
 use Rattle.store.specs.Paths.{any, leads}
 use Rattle.store.specs.View.{edges_of}
 use Rattle.store.specs.declared.direction.Direction.TheVariants.{Outgoing}
-use Rattle.store.proofs.graph.EdgeStoreGraph.permitted.Given as goal
+use Rattle.store.proofs.edge_graph.EdgeStoreGraph.permitted.Given as goal
 
 -- no edge passed leads there
 abbrev pub invariant-loop-step : goal.invariant-loop-step
