@@ -39,30 +39,19 @@ invariant_of-self c =
     let N : Direction → List Link → Type 0 = λ d x. Nexts d x in
     let W : Direction → List Link → Type 0 = λ d x. Within d whole x in
     let from : a < length ns = omega (arith, c.requires.from, s.nodes.ok.0) in
-    let to : b < length ns = omega (arith, c.requires.to, s.nodes.ok.0) in (
-      search rules,
-      (
-        search rules,
-        (
-          subst (F Outgoing) grown (firsts_kept Outgoing half (es ++ e ∷ []) b m c.index_mut-2.result.now c.index_mut-2.ensures.value refl out),
-          (
-            subst (F Incoming) grown (firsts_edge Incoming half es e m (ap Some at) kept),
-            (
-              subst (N Outgoing) (sym q)
-                  (nexts_edge Outgoing ls _ (ap code (first_newest Outgoing s a c.index.result.now from c.index.ensures)) s.nexts_outgoing),
-              (
-                subst (N Incoming) (sym q)
-                    (nexts_edge Incoming ls _ (ap code (first_newest Incoming s b c.index-2.result.now to c.index-2.ensures)) s.nexts_incoming),
-                (
-                  subst (W Outgoing) (sym q) (within_edge Outgoing ns whole ls _ wide from s.sources),
-                  (subst (W Incoming) (sym q) (within_edge Incoming ns whole ls _ wide to s.targets), (search rules, tt)),
-                ),
-              ),
-            ),
-          ),
-        ),
-      ),
-    )
+    let to : b < length ns = omega (arith, c.requires.to, s.nodes.ok.0) in record {
+      nodes_fit = search rules;
+      links_fit = search rules;
+      firsts_outgoing = subst (F Outgoing) grown (firsts_kept Outgoing half (es ++ e ∷ []) b m c.index_mut-2.result.now c.index_mut-2.ensures.value refl out);
+      firsts_incoming = subst (F Incoming) grown (firsts_edge Incoming half es e m (ap Some at) kept);
+      nexts_outgoing = subst (N Outgoing) (sym q)
+          (nexts_edge Outgoing ls _ (ap code (first_newest Outgoing s a c.index.result.now from c.index.ensures)) s.nexts_outgoing);
+      nexts_incoming = subst (N Incoming) (sym q)
+          (nexts_edge Incoming ls _ (ap code (first_newest Incoming s b c.index-2.result.now to c.index-2.ensures)) s.nexts_incoming);
+      sources = subst (W Outgoing) (sym q) (within_edge Outgoing ns whole ls _ wide from s.sources);
+      targets = subst (W Incoming) (sym q) (within_edge Incoming ns whole ls _ wide to s.targets);
+      few_nodes = search rules;
+    }
 
 pub returns : goal.returns
 returns c =

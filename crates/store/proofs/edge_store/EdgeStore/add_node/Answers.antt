@@ -13,25 +13,4 @@ invariant_of-self c =
     let ls = s.links.items in
     let e = sym c.push_reserved.ensures.items in
     let F : Direction → List Node → Type 0 = λ d x. Firsts d x (edges_in ls) in
-    let W : Direction → List Node → Type 0 = λ d x. Within d x ls in (
-      search rules,
-      (
-        search rules,
-        (
-          subst (F Outgoing) e (firsts_node Outgoing ns ls _ refl s.sources s.firsts_outgoing),
-          (
-            subst (F Incoming) e (firsts_node Incoming ns ls _ refl s.targets s.firsts_incoming),
-            (
-              s.nexts_outgoing,
-              (
-                s.nexts_incoming,
-                (
-                  subst (W Outgoing) e (within_node Outgoing ns ls _ s.sources),
-                  (subst (W Incoming) e (within_node Incoming ns ls _ s.targets), (search rules, tt)),
-                ),
-              ),
-            ),
-          ),
-        ),
-      ),
-    )
+    let W : Direction → List Node → Type 0 = λ d x. Within d x ls in record { nodes_fit = search rules; links_fit = search rules; firsts_outgoing = subst (F Outgoing) e (firsts_node Outgoing ns ls _ refl s.sources s.firsts_outgoing); firsts_incoming = subst (F Incoming) e (firsts_node Incoming ns ls _ refl s.targets s.firsts_incoming); nexts_outgoing = s.nexts_outgoing; nexts_incoming = s.nexts_incoming; sources = subst (W Outgoing) e (within_node Outgoing ns ls _ s.sources); targets = subst (W Incoming) e (within_node Incoming ns ls _ s.targets); few_nodes = search rules }
