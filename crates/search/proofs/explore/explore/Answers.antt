@@ -94,8 +94,8 @@ returns-in-Some-open g c =
     c.open.new.guard c.open.new.visitor (Some c.in-Some-open.value) c.push.ensures.held opened.opens in
     record { kept = kept; empty = tt; explores = leads }
 
-pub overflow-add-time : goal.overflow-add-time
-overflow-add-time g c =
+pub overflow_add-time : goal.overflow_add-time
+overflow_add-time g c =
     let V = g.V.Visitor.meaning in
     let G = g.G.Graph.meaning c.args.graph.now in
     let rest = g.G.Graph.rest c.args.graph.now in
@@ -133,7 +133,7 @@ frames-preserved-in-Some-next g c =
     let slots = here.kept.slots in
     let pushed = c.push.ensures.used in
     let same = c.push.ensures.room in
-    let opened = c.in-default-open.ensures in
+    let opened = c.in_default-open.ensures in
     let used = opened.used in
     let kept = kept_on here.kept
     (kept_set c.neighbors.guard c.open.new.guard c.neighbors.stack c.open.new.stack c.neighbors.time (c.neighbors.time + 1)
@@ -167,12 +167,12 @@ returns-in-Some-close g c =
     (kept_set c.neighbors.guard c.close.new.guard c.neighbors.stack c.neighbors.stack c.neighbors.time c.neighbors.time
     c.in-Some.frame.block 2 in_List.block c.close.ensures.count c.close.ensures.same c.close.ensures.marks
     refl here.kept.fits (omega arith)) in
-    let leads = closing V G rest here c.close.new.guard c.close.new.visitor (Some c.in-Some-close.value) c.in-default-next.ensures
+    let leads = closing V G rest here c.close.new.guard c.close.new.visitor (Some c.in-Some-close.value) c.in_default-next.ensures
     c.in-Some-close.ensures.closes in
     record { kept = kept; empty = tt; explores = leads }
 
-pub overflow-add-time-in-Some : goal.overflow-add-time-in-Some
-overflow-add-time-in-Some g c =
+pub overflow_add-time-in-Some : goal.overflow_add-time-in-Some
+overflow_add-time-in-Some g c =
     let V = g.V.Visitor.meaning in
     let G = g.G.Graph.meaning c.args.graph.now in
     let rest = g.G.Graph.rest c.args.graph.now in
@@ -207,8 +207,8 @@ frames-preserved g c =
     (kept_set c.neighbors.guard c.close.new.guard c.neighbors.stack c.neighbors.stack c.neighbors.time (c.neighbors.time + 1)
     c.in-Some.frame.block 2 in_List.block c.close.ensures.count c.close.ensures.same c.close.ensures.marks
     refl here.kept.fits (omega arith)) in
-    let leads = closing V G rest here c.close.new.guard c.close.new.visitor None c.in-default-next.ensures
-    c.in-default-close.ensures.closes in
+    let leads = closing V G rest here c.close.new.guard c.close.new.visitor None c.in_default-next.ensures
+    c.in_default-close.ensures.closes in
     record { kept = kept; bound = leads }
 
 pub returns : goal.returns
@@ -216,7 +216,7 @@ returns g c =
     let V = g.V.Visitor.meaning in
     let G = g.G.Graph.meaning c.args.graph.now in
     let rest = g.G.Graph.rest c.args.graph.now in
-    let popped = c.in-default.ensures in
+    let popped = c.in_default.ensures in
     let kept = c.frames.invariant.kept in
     let none = popped.popped.0 in
     let fits = kept.fits in
