@@ -9,5 +9,5 @@ returns-in-Ok g c =
     let W = g.G.Graph.sound c.args.graph.now in
     let walked = c.in-Ok.ensures in
     let said = cycle_answered G W c.args.marks.now (length c.args.frames.now) _ (record { block = c.args.block }) c.args.block
-    (λ e. refl) (λ e. refl) c.in-Ok.stop walked.answer c.is-some.result c.is-some.ensures in
-    record { marks = c.set-depth-first-search.ensures.marks; frames = walked.frames; answer = said.answer; law = said.law }
+    (λ e. refl) (λ e. refl) c.in-Ok.stop walked.answer c.is_some.result c.is_some.ensures in
+    record { marks = c.set_depth_first_search.ensures.marks; frames = walked.frames; answer = said.answer; law = said.law }

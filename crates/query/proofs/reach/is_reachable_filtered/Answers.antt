@@ -13,8 +13,8 @@ returns-then-from-to g c =
     let old = c.args.marks.now in
     let room = length c.args.frames.now in
     let both = c.args.from ∷ c.args.to ∷ [] in
-    let free : refused G.size both old room ≡ None = ap (λ n. refused n both old room) (sym c.node-count.ensures)
-    ∙ sym c.in-default.ensures in
+    let free : refused G.size both old room ≡ None = ap (λ n. refused n both old room) (sym c.node_count.ensures)
+    ∙ sym c.in_default.ensures in
     let is = same_block G W old room F c.args.from c.args.to free c.if-from-to.true in
     let said = reach_answered G W old room F c.args.from c.args.to free true is in
     record {
@@ -33,16 +33,16 @@ returns-in-Ok g c =
     let room = length c.args.frames.now in
     let both = c.args.from ∷ c.args.to ∷ [] in
     let one = c.args.from ∷ [] in
-    let free : refused G.size both old room ≡ None = ap (λ n. refused n both old room) (sym c.node-count.ensures)
-    ∙ sym c.in-default.ensures in
+    let free : refused G.size both old room ≡ None = ap (λ n. refused n both old room) (sym c.node_count.ensures)
+    ∙ sym c.in_default.ensures in
     let walked = c.in-Ok.ensures in
     let ended = accepted_stop (refused G.size one old room) _ c.in-Ok.stop walked.answer in
     let other = other_block G W old room F c.args.from c.args.to free _
     (record { graph = c.args.graph; filter = c.args.filter; target = c.args.to }) (λ e. refl) (λ e. refl) in
-    let is = c.unwrap-or.ensures ∙ other c.if-from-to.false c.in-Ok.stop ended.1 in
-    let said = reach_answered G W old room F c.args.from c.args.to free c.unwrap-or.result is in
+    let is = c.unwrap_or.ensures ∙ other c.if-from-to.false c.in-Ok.stop ended.1 in
+    let said = reach_answered G W old room F c.args.from c.args.to free c.unwrap_or.result is in
     record {
-      marks = c.set-depth-first-search.ensures.marks;
+      marks = c.set_depth_first_search.ensures.marks;
       frames =
           frames_on (refused G.size one old room) (refused G.size both old room) c.args.frames.now _ ended.0 free walked.frames;
       answer = said.answer;

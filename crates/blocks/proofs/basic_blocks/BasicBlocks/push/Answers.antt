@@ -17,16 +17,7 @@ invariant_of-self c =
     let is = t.instructions.items in
     let e = sym c.push_reserved.ensures.items in
     let F : List BasicBlock → Type 0 = λ x. Flagged x is in
-    let I : List BasicBlock → Type 0 = λ x. Inside x is in (
-      search rules,
-      (
-        search rules,
-        (
-          subst F e (flagged_block bs is _ refl t.inside t.flagged),
-          (subst I e (inside_block bs is _ t.inside), tt),
-        ),
-      ),
-    )
+    let I : List BasicBlock → Type 0 = λ x. Inside x is in record { items_fit = search rules; instructions_fit = search rules; flagged = subst F e (flagged_block bs is _ refl t.inside t.flagged); inside = subst I e (inside_block bs is _ t.inside) }
 
 pub returns : goal.returns
 returns c =

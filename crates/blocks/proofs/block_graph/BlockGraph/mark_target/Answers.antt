@@ -10,24 +10,24 @@ same g = record { marks = omega arith; edges = omega arith; instructions = omega
 pub returns-in-Unreachable : goal.returns-in-Unreachable
 returns-in-Unreachable c =
     let g = graph_of c.args.self.now in
-    record { sizes = same g; graph = stays_unreachable g c.args.a c.args.b c.args.kind c.in-Unreachable.is c.if-has-incoming.ensures }
+    record { sizes = same g; graph = stays_unreachable g c.args.a c.args.b c.args.kind c.in-Unreachable.is c.if-has_incoming.ensures }
 
-pub returns-else-not-has-incoming : goal.returns-else-not-has-incoming
-returns-else-not-has-incoming c =
+pub returns-else-not-has_incoming : goal.returns-else-not-has_incoming
+returns-else-not-has_incoming c =
     let g = graph_of c.args.self.now in
     record {
       sizes = same g;
       graph = stays_off g c.args.a c.args.b c.args.kind
-          (record { not_new_function = c.in-default.not-NewFunction; not_unreachable = c.in-default.not-Unreachable })
-          c.if-is-unreachable.ensures c.if-not-has-incoming.ensures;
+          (record { not_new_function = c.in_default.not-NewFunction; not_unreachable = c.in_default.not-Unreachable })
+          c.if-is_unreachable.ensures c.if-not-has_incoming.ensures;
     }
 
-pub returns-in-default-2 : goal.returns-in-default-2
-returns-in-default-2 c =
+pub returns-in_default-2 : goal.returns-in_default-2
+returns-in_default-2 c =
     let g = graph_of c.args.self.now in
     record {
       sizes = same g;
       graph = stays_held g c.args.a c.args.b c.args.kind
-          (record { not_new_function = c.in-default.not-NewFunction; not_unreachable = c.in-default.not-Unreachable })
-          c.if-is-unreachable.ensures c.if-holds-unreachable.ensures;
+          (record { not_new_function = c.in_default.not-NewFunction; not_unreachable = c.in_default.not-Unreachable })
+          c.if-is_unreachable.ensures c.if-holds_unreachable.ensures;
     }
