@@ -10,7 +10,7 @@ returns-in-Ok g c =
     let us = c.args.starts.now in
     let why = refused G.size us c.args.marks.now (length c.args.frames.now) in
     let walked = c.in-Ok.ensures in
-    let said = accepted G us _ refl why c.set-depth-first-search.new.visitor c.in-Ok.stop walked.answer walked.visitor in
+    let said = accepted G us _ refl why c.set_depth_first_search.new.visitor c.in-Ok.stop walked.answer walked.visitor in
     let same = said.same in
     record { marks = walked.marks; frames = walked.frames; log = search rules ∙ said.holds; answer = said.answer }
 
@@ -20,6 +20,6 @@ returns-in-Err g c =
     let us = c.args.starts.now in
     let why = refused G.size us c.args.marks.now (length c.args.frames.now) in
     let walked = c.in-Err.ensures in
-    let said = refused_walk G us _ why c.set-depth-first-search.new.visitor c.in-Err.refusal walked.answer walked.visitor in
+    let said = refused_walk G us _ why c.set_depth_first_search.new.visitor c.in-Err.refusal walked.answer walked.visitor in
     let same = said.same in
     record { marks = walked.marks; frames = walked.frames; log = search rules ∙ said.holds; answer = said.answer }

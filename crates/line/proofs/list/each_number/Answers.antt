@@ -10,7 +10,7 @@ pub loop-word-preserved : goal.loop-word-preserved
 loop-word-preserved c =
     let read = vec_items c.loop-word.list in
     let still = left c.next.new.self in
-    ap (λ xs. option_map (λ ns. xs ++ ns) (numbers still)) c.in-ok-push.ensures.items
+    ap (λ xs. option_map (λ ns. xs ++ ns) (numbers still)) c.in_ok-push.ensures.items
     ∙ numbers_more read c.in-Some-number.n c.in-Some.word.now still c.in-Some-number.ensures
     ∙ ap (λ ws. option_map (λ ns. read ++ ns) (numbers ws)) (sym c.in-Some.ensures.steps)
     ∙ c.loop-word.invariant

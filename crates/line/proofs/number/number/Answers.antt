@@ -9,7 +9,7 @@ use Rattle.line.proofs.number.number.Goals as goal
 pub returns : goal.returns
 returns c =
     let w = c.args.word.now in
-    let plus = starts_char 43 w c.starts-with.result c.starts-with.ensures.cases (omega arith) (omega arith) in
+    let plus = starts_char 43 w c.starts_with.result c.starts_with.ensures.cases (omega arith) (omega arith) in
     let read = parse_plain own 32 w c.parse.result c.parse.ensures.value.0
-    (λ e. both_ways c.starts-with.result c.if-starts-with.false (plus.1 e)) in
+    (λ e. both_ways c.starts_with.result c.if-starts_with.false (plus.1 e)) in
     c.ok.ensures.value ∙ read_number w c.parse.result read

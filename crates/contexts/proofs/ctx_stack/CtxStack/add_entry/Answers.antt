@@ -11,25 +11,16 @@ use Rattle.contexts.proofs.Views.{contexts_count, contexts_filed}
 use Rattle.contexts.proofs.Waiting.{contexts_waiting}
 use Rattle.contexts.proofs.ctx_stack.CtxStack.add_entry.Goals as goal
 
-pub push-reserved-requires : goal.push-reserved-requires
-push-reserved-requires c =
+pub push_reserved-requires : goal.push_reserved-requires
+push_reserved-requires c =
     let s = c.args.self.now in
     omega (arith, contexts_waiting s.stack.items s.waiting.items s.contexts_known, c.requires.room, s.waiting.ok.0, s.waiting_fits)
 
-pub invariant-of-self : goal.invariant-of-self
-invariant-of-self c =
+pub invariant_of-self : goal.invariant_of-self
+invariant_of-self c =
     let s = c.args.self.now in
     let w : WaitingEntry = record { context = c.args.context; kind = c.args.kind; block = c.args.block } in
-    let h = ap (highest above_context) c.push-reserved.ensures.items ∙ highest_push above_context s.waiting.items w in (
-      search rules,
-      (
-        search rules,
-        (
-          s.labels_fit,
-          (omega (arith, h, s.contexts_known, c.requires.within, contexts_count s.stack.items s.waiting.items), tt),
-        ),
-      ),
-    )
+    let h = ap (highest above_context) c.push_reserved.ensures.items ∙ highest_push above_context s.waiting.items w in record { stack_fits = search rules; waiting_fits = search rules; labels_fit = s.labels_fit; contexts_known = omega (arith, h, s.contexts_known, c.requires.within, contexts_count s.stack.items s.waiting.items) }
 
 pub returns : goal.returns
 returns c =
@@ -38,8 +29,8 @@ returns c =
     let f = with_entry c.args.kind c.args.block in
     let xs = s.stack.items in
     let ws = s.waiting.items in
-    let vs = c.push-reserved.new.self.items in
-    let q = c.push-reserved.ensures.items in
+    let vs = c.push_reserved.new.self.items in
+    let q = c.push_reserved.ensures.items in
     let e : contexts_in (reverse xs) vs ≡ changed_at f c.args.context (contexts_of s) = ap (λ z. contexts_in (reverse xs) z) q
     ∙ contexts_filed (reverse xs) ws w in
     let h = ap (highest above_context) q ∙ highest_push above_context ws w in

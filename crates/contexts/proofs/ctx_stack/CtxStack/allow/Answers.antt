@@ -12,23 +12,14 @@ use Rattle.contexts.proofs.ctx_stack.CtxStack.allow.Goals as goal
 pub index-ctx-requires : goal.index-ctx-requires
 index-ctx-requires c = context_index c.args.self.now c.args.context c.requires
 
-pub index-mut-requires : goal.index-mut-requires
-index-mut-requires c = context_index c.args.self.now c.args.context c.requires
+pub index_mut-requires : goal.index_mut-requires
+index_mut-requires c = context_index c.args.self.now c.args.context c.requires
 
-pub invariant-of-self : goal.invariant-of-self
-invariant-of-self c =
+pub invariant_of-self : goal.invariant_of-self
+invariant_of-self c =
     let s = c.args.self.now in
     let old = c.index-ctx.result.now in
-    let e = ap (λ (x : Ctx). x.label) c.allowing.ensures in (
-      search rules,
-      (
-        search rules,
-        (
-          labels_kept s.text.now s.stack.items c.args.context c.allowing.result old c.index-ctx.ensures e s.labels_fit,
-          (search rules, tt),
-        ),
-      ),
-    )
+    let e = ap (λ (x : Ctx). x.label) c.allowing.ensures in record { stack_fits = search rules; waiting_fits = search rules; labels_fit = labels_kept s.text.now s.stack.items c.args.context c.allowing.result old c.index-ctx.ensures e s.labels_fit; contexts_known = search rules }
 
 pub returns : goal.returns
 returns c =

@@ -12,6 +12,6 @@ returns c =
     let xs = s.stack.items in
     let ws = s.waiting.items in
     record {
-      value = c.in-context.ensures.value ∙ sym (found_contexts s.text.now c.args.kind c.args.label (reverse xs) ws);
-      within = within c.in-context.result _ _ (sym (contexts_count xs ws)) c.in-context.ensures.within;
+      value = c.in_context.ensures.value ∙ sym (found_contexts s.text.now c.args.kind c.args.label (reverse xs) ws);
+      within = within c.in_context.result _ _ (sym (contexts_count xs ws)) c.in_context.ensures.within;
     }

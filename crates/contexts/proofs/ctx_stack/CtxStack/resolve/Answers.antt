@@ -21,17 +21,17 @@ draw-requires c =
     let es = entries_of i ws in
     let k : Context = context_of x es in
     let e = c.in-Some.ensures.contexts in
-    let seen = c.as-slice.ensures.value in
+    let seen = c.as_slice.ensures.value in
     let bound = ap (highest block_bound) e in
     let known = waiting_known s.stack.items ws s.contexts_known in
     let v = ap (highest above_block) seen in
     let n = ap (λ z. drawn_of (resolve_counts z)) e in
-    let a : sum_by (draws i x) c.as-slice.result.now ≡ drawn_count k = ap (sum_by (draws i x)) seen ∙ draws_own_count i x es ws in
+    let a : sum_by (draws i x) c.as_slice.result.now ≡ drawn_count k = ap (sum_by (draws i x)) seen ∙ draws_own_count i x es ws in
     let p = c.requires in
     record { blocks = omega arith; breaks = omega arith; continues = omega arith; room = omega arith }
 
-pub invariant-of-self : goal.invariant-of-self
-invariant-of-self c =
+pub invariant_of-self : goal.invariant_of-self
+invariant_of-self c =
     let s = c.args.self.now in
     let xs = s.stack.items in
     let ws = s.waiting.items in
@@ -41,16 +41,7 @@ invariant-of-self c =
     let popped = c.pop.ensures.rest in
     let lim : highest above_context ws ≤ suc i = omega (arith, s.contexts_known, t.number) in
     let kept = ap (highest above_context) c.release.ensures.items in
-    let known = numbers_kept i ws lim in (
-      search rules,
-      (
-        search rules,
-        (
-          subst L (sym popped) (labels_take s.text.now xs _ s.labels_fit),
-          (omega (arith, kept, known, ap length popped, length-take (s.stack.len - 1) xs, s.stack.ok.0, t.number), tt),
-        ),
-      ),
-    )
+    let known = numbers_kept i ws lim in record { stack_fits = search rules; waiting_fits = search rules; labels_fit = subst L (sym popped) (labels_take s.text.now xs _ s.labels_fit); contexts_known = omega (arith, kept, known, ap length popped, length-take (s.stack.len - 1) xs, s.stack.ok.0, t.number) }
 
 pub returns : goal.returns
 returns c =
@@ -63,7 +54,7 @@ returns c =
     let es = entries_of i ws in
     let t = c.in-Some.ensures in
     let e = t.contexts in
-    let seen = c.as-slice.ensures.value in
+    let seen = c.as_slice.ensures.value in
     let left = c.release.new.waiting.items in
     let m : s.stack.len - 1 ≡ i = omega (arith, t.number, s.stack.ok.0) in
     let short : length (reverse (take i xs)) ≤ i = omega (arith, length-reverse (take i xs), length-take i xs) in

@@ -17,10 +17,10 @@ loop-entry-preserved c =
     let x = sum_by_more (draws c.args.context c.args.ctx) ws i D lt in
     let y = sum_by_more (lacks c.args.context c.args.ctx) ws i D lt in
     let h = c.loop-entry.invariant in (
-      omega (arith, h.0, x, c.with-target-drawn.ensures.value),
-      omega (arith, h.1, y, c.without-target-untargeted.ensures.value),
-      omega (arith, h.2, c.with-target-drawn.ensures.bound),
-      omega (arith, h.3, c.without-target-untargeted.ensures.bound),
+      omega (arith, h.0, x, c.with_target-drawn.ensures.value),
+      omega (arith, h.1, y, c.without_target-untargeted.ensures.value),
+      omega (arith, h.2, c.with_target-drawn.ensures.bound),
+      omega (arith, h.3, c.without_target-untargeted.ensures.bound),
     )
 
 pub returns : goal.returns

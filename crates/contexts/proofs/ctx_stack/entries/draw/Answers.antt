@@ -12,8 +12,8 @@ use Rattle.contexts.proofs.ctx_stack.entries.draw.Goals as goal
 abbrev D : WaitingEntry
 D = record { context = 0; kind = Break; block = 0 }
 
-pub draw-one-requires : goal.draw-one-requires
-draw-one-requires c =
+pub draw_one-requires : goal.draw_one-requires
+draw_one-requires c =
     let ws = c.args.waiting.now in
     let i = c.loop-entry.entry-index in
     let lt : i < length ws = omega arith in
@@ -35,8 +35,8 @@ loop-entry-preserved c =
     let lt : i < length ws = omega arith in
     let x = sum_by_more (draws c.args.context c.args.ctx) ws i D lt in
     let h = c.loop-entry.invariant.1 in
-    let s = c.draw-one.ensures.sizes in (
-      c.draw-one.ensures.graph ∙ ap (one_drawn c.args.context c.args.ctx (get_or ws i D)) c.loop-entry.invariant.0
+    let s = c.draw_one.ensures.sizes in (
+      c.draw_one.ensures.graph ∙ ap (one_drawn c.args.context c.args.ctx (get_or ws i D)) c.loop-entry.invariant.0
           ∙ sym (drawn_more c.args.context c.args.ctx ws i D (graph_of c.args.graph.now) lt),
       record {
         marks = omega (arith, h.marks, s.marks);

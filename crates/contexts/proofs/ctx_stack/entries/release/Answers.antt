@@ -17,9 +17,9 @@ loop-i-preserved c =
     let lt : c.loop-i.i < length c.loop-i.waiting.items =
     omega (arith, c.loop-i-test.true, c.len-i-end.ensures, c.args.waiting.now.ok.0, h.0.long, c.loop-i.auto.i-end) in
     elim c.if-entry-context.branch [
-      | then-entry-context w ↦ rw (w.waiting-is, w.kept-count-is)
+      | then-entry-context w ↦ rw (w.waiting-is, w.kept_count-is)
           (FiltersInPlace-more_set h.0 lt (other x c.args.context w.if-entry-context.true) c.index-entry.ensures, h.1)
-      | else-entry-context w ↦ rw (w.waiting-is, w.kept-count-is)
+      | else-entry-context w ↦ rw (w.waiting-is, w.kept_count-is)
           (FiltersInPlace-more_no h.0 lt (same x c.args.context w.if-entry-context.false) c.index-entry.ensures, h.1)
     ]
 

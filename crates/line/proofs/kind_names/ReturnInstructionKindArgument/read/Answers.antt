@@ -3,7 +3,7 @@ use Rattle.line.specs.Kinds.{return_names}
 use Rattle.line.proofs.Names.{chosen_none}
 use Rattle.line.proofs.kind_names.ReturnInstructionKindArgument.read.Goals as goal
 
-pub returns-in-default : goal.returns-in-default
-returns-in-default c =
-    let other = c.in-default in
-    chosen_none c.args.word.now return_names (other.not-implicit-undefined, (other.not-not-implicit-undefined, tt))
+pub returns-in_default : goal.returns-in_default
+returns-in_default c =
+    let other = c.in_default in
+    chosen_none c.args.word.now return_names (other.not-implicit_undefined, (other.not-not_implicit_undefined, tt))
