@@ -5,8 +5,8 @@ use Rattle.blocks.specs.View.{graph_of}
 use Rattle.block_builder.specs.BlockState.{above_harness}
 use Rattle.block_builder.proofs.block_builder.BlockBuilder.release_error_harness.Goals as goal
 
-pub invariant-of-self : goal.invariant-of-self
-invariant-of-self c =
+pub invariant_of-self : goal.invariant_of-self
+invariant_of-self c =
     let s = c.args.self.now in
     let xs = s.error_path in
     let h : highest above_harness c.pop.new.self.items ≤ length (graph_of s.graph).marks =
