@@ -21,14 +21,14 @@ module _ (w : Words) (s : ℕ) (is : s ≡ byte_of w.separator) (unended : w.end
       ap (λ t. cond t [] (parts (byte_of w.separator) w.rest.now)) unended ∙ ap (λ k. parts k w.rest.now) (sym is)
 
   -- the word before the first separator
-  pub takes_first : (word rest : Bor (List ℕ)) → now w.rest ≡ now word ++ (s ∷ now rest) → Lacks s (now word)
-      → left w ≡ now word ∷ left (record { rest = rest; separator = w.separator; ended = w.ended })
+  pub takes_first : (word rest : Bor (List ℕ)) → w.rest.now ≡ word.now ++ (s ∷ rest.now) → Lacks s word.now
+      → left w ≡ word.now ∷ left (record { rest = rest; separator = w.separator; ended = w.ended })
   takes_first word rest cut lacks =
       whole
       ∙ ap (parts s) cut
-      ∙ parts_first s (now word) (now rest) lacks
-      ∙ ap (λ k. now word ∷ parts k (now rest)) is
-      ∙ ap (λ t. now word ∷ cond t [] (parts (byte_of w.separator) (now rest))) (sym unended)
+      ∙ parts_first s word.now rest.now lacks
+      ∙ ap (λ k. word.now ∷ parts k rest.now) is
+      ∙ ap (λ t. word.now ∷ cond t [] (parts (byte_of w.separator) rest.now)) (sym unended)
 
   -- the last word
   pub takes_last : Lacks s w.rest.now → left w ≡ w.rest.now ∷ []

@@ -6,8 +6,8 @@ use Rattle.cfg.specs.declared.loop_query.Sought.TheVariants.{Backedge}
 use Rattle.cfg.proofs.Seconds.{no_loop}
 use Rattle.cfg.proofs.control_flow_graph.ControlFlowGraph.is_infinite_loop_start.Goals as goal
 
-pub returns-in-default : goal.returns-in-default
-returns-in-default g c =
+pub returns-in_default : goal.returns-in_default
+returns-in_default g c =
     no_loop (g.E.EvalConstCondition.holds c.args.evaluator.now) c.args.node (graph_of c.args.self.now)
-    (omega (arith, c.if-node-block-count.false, c.block-count.ensures))
-    (ap (first_fit Backedge) (sym c.edges-at-incoming.ensures) ∙ sym c.find.ensures.first ∙ c.in-default.is)
+    (omega (arith, c.if-node-block_count.false, c.block_count.ensures))
+    (ap (first_fit Backedge) (sym c.edges_at-incoming.ensures) ∙ sym c.find.ensures.first ∙ c.in_default.is)
