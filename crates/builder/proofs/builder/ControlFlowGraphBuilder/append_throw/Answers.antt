@@ -4,4 +4,4 @@ use Rattle.builder.proofs.builder.ControlFlowGraphBuilder.append_throw.Goals as 
 
 pub returns : goal.returns
 returns c =
-    let f = forwarded (book_of c.args.self.now) _ _ _ _ _ c.append-terminator.ensures in record { book = f.book; answer = f.answer }
+    let f = forwarded (book_of c.args.self.now) _ _ _ _ _ c.append_terminator.ensures in record { book = f.book; answer = f.answer }

@@ -4,4 +4,4 @@ use Rattle.builder.proofs.builder.ControlFlowGraphBuilder.append_unreachable.Goa
 
 pub returns : goal.returns
 returns c =
-    let f = forwarded (book_of c.args.self.now) _ _ _ _ _ c.append-unreachable.ensures in record { book = f.book; answer = f.answer }
+    let f = forwarded (book_of c.args.self.now) _ _ _ _ _ c.append_unreachable.ensures in record { book = f.book; answer = f.answer }

@@ -4,4 +4,4 @@ use Rattle.builder.proofs.builder.ControlFlowGraphBuilder.enter_statement.Goals 
 
 pub returns : goal.returns
 returns c =
-    let f = forwarded (book_of c.args.self.now) _ _ _ _ _ c.push-instruction.ensures in record { book = f.book; answer = f.answer }
+    let f = forwarded (book_of c.args.self.now) _ _ _ _ _ c.push_instruction.ensures in record { book = f.book; answer = f.answer }

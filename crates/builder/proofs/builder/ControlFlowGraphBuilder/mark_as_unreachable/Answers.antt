@@ -4,4 +4,4 @@ use Rattle.builder.proofs.builder.ControlFlowGraphBuilder.mark_as_unreachable.Go
 
 pub returns : goal.returns
 returns c =
-    let f = forwarded (book_of c.args.self.now) _ _ _ _ _ c.mark-as-unreachable.ensures in record { book = f.book; answer = f.answer }
+    let f = forwarded (book_of c.args.self.now) _ _ _ _ _ c.mark_as_unreachable.ensures in record { book = f.book; answer = f.answer }

@@ -4,4 +4,4 @@ use Rattle.builder.proofs.builder.ControlFlowGraphBuilder.release_error_harness.
 
 pub returns : goal.returns
 returns c =
-    let f = forwarded (book_of c.args.self.now) _ _ _ _ _ c.release-error-harness.ensures in record { book = f.book; answer = f.answer }
+    let f = forwarded (book_of c.args.self.now) _ _ _ _ _ c.release_error_harness.ensures in record { book = f.book; answer = f.answer }
