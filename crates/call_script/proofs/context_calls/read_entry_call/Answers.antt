@@ -4,7 +4,7 @@ use Rattle.call_script.specs.Lines.{entry_calls}
 use Rattle.line.proofs.Names.{chosen_none}
 use Rattle.call_script.proofs.context_calls.read_entry_call.Goals as goal
 
-pub returns-in-default : goal.returns-in-default
-returns-in-default c =
-    let other = c.in-default in
-    chosen_none c.args.name.now (entry_calls (left c.args.words)) (other.not-break, (other.not-continue, (other.not-mark-break, (other.not-mark-continue, (other.not-break-top, (other.not-continue-top, (other.not-mark-break-top, (other.not-mark-continue-top, (other.not-allow-break, (other.not-allow-continue, tt))))))))))
+pub returns-in_default : goal.returns-in_default
+returns-in_default c =
+    let other = c.in_default in
+    chosen_none c.args.name.now (entry_calls (left c.args.words)) (other.not-break, (other.not-continue, (other.not-mark_break, (other.not-mark_continue, (other.not-break_top, (other.not-continue_top, (other.not-mark_break_top, (other.not-mark_continue_top, (other.not-allow_break, (other.not-allow_continue, tt))))))))))

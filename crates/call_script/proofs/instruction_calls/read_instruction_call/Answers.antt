@@ -4,7 +4,7 @@ use Rattle.call_script.specs.Lines.{instruction_calls}
 use Rattle.line.proofs.Names.{chosen_none}
 use Rattle.call_script.proofs.instruction_calls.read_instruction_call.Goals as goal
 
-pub returns-in-default : goal.returns-in-default
-returns-in-default c =
-    let other = c.in-default in
-    chosen_none c.args.name.now (instruction_calls (left c.args.words)) (other.not-push-statement, (other.not-enter-statement, (other.not-push-return, (other.not-push-implicit-return, (other.not-append-iteration, (other.not-append-condition-to, (other.not-append-unreachable, (other.not-append-throw, (other.not-append-break, (other.not-append-continue, tt))))))))))
+pub returns-in_default : goal.returns-in_default
+returns-in_default c =
+    let other = c.in_default in
+    chosen_none c.args.name.now (instruction_calls (left c.args.words)) (other.not-push_statement, (other.not-enter_statement, (other.not-push_return, (other.not-push_implicit_return, (other.not-append_iteration, (other.not-append_condition_to, (other.not-append_unreachable, (other.not-append_throw, (other.not-append_break, (other.not-append_continue, tt))))))))))

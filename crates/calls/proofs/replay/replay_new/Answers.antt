@@ -6,8 +6,8 @@ use Rattle.book.specs.Ledger.{ledger_run, new_ledger}
 use Rattle.builder.specs.View.{book_of}
 use Rattle.calls.proofs.replay.replay_new.Goals as goal
 
-pub returns-in-err-builder : goal.returns-in-err-builder
-returns-in-err-builder c =
+pub returns-in_err-builder : goal.returns-in_err-builder
+returns-in_err-builder c =
     let cs = c.args.calls.now in
     let k = new_book c.args.text.now in
     let l = law_run cs k new_ledger (law_new c.args.text.now) in
