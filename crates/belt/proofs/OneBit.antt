@@ -1,10 +1,10 @@
 -- An edit changes one bit, and the plan says so.
-use Rattle.std.proofs.Common.{◌≡◌, ℕ, ◌<◌, Bool, true, false, cond, ◌&&◌, eqb, ltb, ◌≢◌, ◌⊎◌, length, get_or, set, sym, refl, ap, ◌∙◌, inl, inr, arith}
+use Rattle.std.proofs.Common.{◌≡◌, ℕ, ◌<◌, Bool, true, false, cond, ◌&&◌, eqb, ltb, ◌≢◌, ◌⊎◌, length, get_or, sym, refl, ap, ◌∙◌, inl, inr, arith}
 use Rattle.std.proofs.lemmas.List.{get_or-set_same, get_or-set_other}
 use Rattle.std.proofs.lemmas.Bool.{cases_eq, lt-ltb}
 use Rattle.belt.specs.declared.plan.BeltPlan.{BeltPlan}
 use Rattle.belt.specs.Words.{bit, put}
-use Rattle.belt.specs.Plan.{has, transfer, locked, row_of}
+use Rattle.belt.specs.Plan.{has, transfer, row_of}
 use Rattle.belt.specs.Edits.{with_transfer, with_lock, TransferIs, LockIs}
 use Rattle.belt.proofs.Bits.{bit_same, bit_other}
 

@@ -10,7 +10,7 @@
 --   edge_added a b k g        g with that mark and that edge
 --   instructions_in b is      the instructions of the block b, in their order
 --   Grown n e i g h           h has n blocks, e edges and i instructions more than g
-use Rattle.std.specs.Prelude.{◌≡◌, ℕ, ◌+◌, Bool, true, false, cond, ◌&&◌, ◌||◌, List, [], ◌∷◌, ◌++◌, length, set, ◌==◌, slice_index_or, slice_set}
+use Rattle.std.specs.Prelude.{◌≡◌, ℕ, ◌+◌, Bool, true, false, cond, ◌&&◌, ◌||◌, List, [], ◌∷◌, ◌++◌, length, ◌==◌, slice_index_or, slice_set}
 use Rattle.blocks.specs.declared.basic_block.BlockInstruction.{BlockInstruction}
 use Rattle.kinds.specs.declared.block.Instruction.{Instruction}
 use Rattle.kinds.specs.declared.block.InstructionKind.{InstructionKind}

@@ -1,5 +1,5 @@
 -- What a reader takes from a text that it has not read to the end.
-use Rattle.std.proofs.Common.{◌≡◌, ℕ, ◌<◌, true, false, cond, List, [], ◌∷◌, ◌++◌, sym, ap, ◌∙◌, arith, Bor}
+use Rattle.std.proofs.Common.{◌≡◌, ℕ, ◌<◌, false, cond, List, [], ◌∷◌, ◌++◌, sym, ap, ◌∙◌, arith, Bor}
 use Rattle.line.specs.declared.separator.Separator.{Separator}
 use Rattle.line.specs.declared.separator.Separator.TheVariants.{Blank, Comma, Plus, Colon}
 use Rattle.line.specs.declared.words.Words.{Words}

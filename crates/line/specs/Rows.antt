@@ -4,7 +4,7 @@
 --   named w x        the row of the name w that makes x
 --   chosen w rows    what the first row makes whose name is w; none where no row has it
 --   Unnamed w rows   w is the name of none of the rows
-use Rattle.std.specs.Prelude.{◌≡◌, ℕ, cond, List, [], ◌∷◌, None, Option, ◌≢◌}
+use Rattle.std.specs.Prelude.{ℕ, cond, List, [], ◌∷◌, None, Option, ◌≢◌}
 use Rattle.std.specs.Str.{bytes_eq}
 
 pub record Row (C : Type 0) : Type 0 where

@@ -2,7 +2,7 @@
 --
 --   store_sound    it has at most 512 blocks, lists blocks only, lists none for no block, and permits listed steps only
 --   store_within   every place stands for blocks only
-use Rattle.std.specs.Prelude.{◌≡◌, ℕ, suc, ◌<◌, ◌≤◌, true, false, cond, ◌⊎◌, List, [], ◌∷◌, reverse, length, take, Some, None, vec_items, filter, Option, ◌==◌, nat_eq, refl}
+use Rattle.std.specs.Prelude.{◌≡◌, ℕ, suc, ◌<◌, ◌≤◌, true, cond, List, [], ◌∷◌, reverse, length, take, Some, None, vec_items, filter, Option, ◌==◌, nat_eq, refl}
 use Rattle.std.proofs.Common.{inl, inr, ⊎_elim, sym, ap, subst, ◌∙◌, arith}
 use Rattle.std.specs.List.{AllByRecursion as All, slice_get}
 use Rattle.std.proofs.lemmas.List.{reverse-append}

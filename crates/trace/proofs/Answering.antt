@@ -1,5 +1,5 @@
 -- What a traced walk leaves in the log and replies, refused or not.
-use Rattle.std.proofs.Common.{◌≡◌, ℕ, List, length, Some, None, Ok, Err, Option, Result, sym, refl, ap, ◌∙◌, arith}
+use Rattle.std.proofs.Common.{◌≡◌, ℕ, List, length, Some, None, Ok, Err, Option, Result, ap, ◌∙◌, arith}
 use Rattle.kinds.specs.declared.refusal.Refusal.{Refusal}
 use Rattle.kinds.specs.Replies.{after, told}
 use Rattle.graph.specs.Meaning.{Meaning}

@@ -1,5 +1,5 @@
 -- A log that is written over, event by event.
-use Rattle.std.proofs.Common.{◌≡◌, ℕ, ◌<◌, ◌≤◌, min, List, [], ◌∷◌, ◌++◌, length, take, set, refl, ap, arith}
+use Rattle.std.proofs.Common.{◌≡◌, ◌<◌, ◌≤◌, List, [], ◌∷◌, ◌++◌, length, set, refl, ap, arith}
 use Rattle.walk.specs.declared.event.DfsEvent.{DfsEvent}
 use Rattle.trace.specs.Trace.{overwritten}
 

@@ -1,9 +1,9 @@
 -- What the recorder's log holds at the end of a walk.
-use Rattle.std.proofs.Common.{◌≡◌, ℕ, ◌+◌, ◌<◌, ◌≤◌, min, Bool, true, false, cond, ltb, ◌⊎◌, List, [], ◌∷◌, ◌++◌, length, set, Option, sym, refl, ap, ◌∙◌, subst, inl, inr, arith, length-append}
+use Rattle.std.proofs.Common.{◌≡◌, ℕ, ◌+◌, min, Bool, true, false, cond, ltb, ◌⊎◌, List, [], ◌∷◌, ◌++◌, length, set, Option, sym, refl, ap, ◌∙◌, subst, inl, inr, arith, length-append}
 use Rattle.std.proofs.lemmas.Bool.{cases_Bool, ltb-true, ltb-false}
 use Rattle.graph.specs.Meaning.{Meaning}
 use Rattle.walk.specs.declared.event.DfsEvent.{DfsEvent}
-use Rattle.walk.specs.Walk.{Visitor, Report, walk}
+use Rattle.walk.specs.Walk.{Report, walk}
 use Rattle.walk.proofs.SameStop.{same_log, same_stop}
 use Rattle.trace.specs.declared.recorder.Recorder.{Recorder}
 use Rattle.trace.specs.Recording.{noted, orders_of, passed, recording, written}

@@ -3,7 +3,6 @@ use Rattle.std.proofs.Common.{◌≡◌, ℕ, ◌<◌, ◌≤◌, ◌≢◌, Lis
 use Rattle.walk.specs.declared.mark.Mark.{Mark}
 use Rattle.walk.specs.declared.mark.Mark.TheVariants.{New, Open, Done}
 use Rattle.walk.specs.Marks.{mark_as, byte_of, Holds, mark_of}
-use Rattle.walk.specs.Ways.{here}
 use Rattle.walk.proofs.Marks.{same_or_not, mark_as_same, mark_as_other}
 
 pub mark_of_byte : (m : Mark) → mark_of (byte_of m) ≡ m

@@ -1,5 +1,5 @@
 -- The log comes back with what the recorder wrote.
-use Rattle.std.proofs.Common.{◌≡◌, length, refl, ◌∙◌, rules}
+use Rattle.std.proofs.Common.{length, refl, ◌∙◌, rules}
 use Rattle.search.specs.Refused.{refused}
 use Rattle.trace.proofs.Answering.{accepted, refused_walk}
 use Rattle.trace.proofs.trace.Goals as goal
