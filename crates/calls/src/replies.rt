@@ -7,37 +7,37 @@ use book::reply::Reply;
 use kinds::block::BlockNodeId;
 use kinds::refusal::Refusal;
 
-pub fn done(res: Result<(), Refusal>) -> Reply
-    ensures { result ≡ reply_of as_done res }
+pub fn done(answer: Result<(), Refusal>) -> Reply
+    ensures { result ≡ reply_of as_done answer }
 {
-    match res {
+    match answer {
         Ok(_) => Reply::Done,
         Err(refusal) => Reply::Refused(refusal),
     }
 }
 
-pub fn block(res: Result<BlockNodeId, Refusal>) -> Reply
-    ensures { result ≡ reply_of Block res }
+pub fn block(answer: Result<BlockNodeId, Refusal>) -> Reply
+    ensures { result ≡ reply_of Block answer }
 {
-    match res {
+    match answer {
         Ok(number) => Reply::Block(number),
         Err(refusal) => Reply::Refused(refusal),
     }
 }
 
-pub fn found(res: Result<bool, Refusal>) -> Reply
-    ensures { result ≡ reply_of Found res }
+pub fn found(answer: Result<bool, Refusal>) -> Reply
+    ensures { result ≡ reply_of Found answer }
 {
-    match res {
+    match answer {
         Ok(found) => Reply::Found(found),
         Err(refusal) => Reply::Refused(refusal),
     }
 }
 
-pub fn resolved(res: Result<Option<(usize, usize)>, Refusal>) -> Reply
-    ensures { result ≡ reply_of Resolved res }
+pub fn resolved(answer: Result<Option<(usize, usize)>, Refusal>) -> Reply
+    ensures { result ≡ reply_of Resolved answer }
 {
-    match res {
+    match answer {
         Ok(counts) => Reply::Resolved(counts),
         Err(refusal) => Reply::Refused(refusal),
     }
