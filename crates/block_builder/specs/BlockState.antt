@@ -5,7 +5,7 @@
 --   finalizers                 blocks that a new block gets a Finalize edge to, or empty marks that keep it from getting one
 --   Performs why done x s t r  a call on the state s, which leaves t and replies r: where why refuses it nothing changes and the refusal
 --                              is told, else the state is done and the reply is x; the blocks get no fewer
---   ..-refusal                 the rows of a call's refusals, tried from the top
+--   .._refusal                 the rows of a call's refusals, tried from the top
 --   Room                       how many more blocks, edges and so on a call needs
 --   first_full n s             FULL with the first table of s that has no room for what is needed, none where all have
 use Rattle.std.specs.Prelude.{◌≡◌, ℕ, suc, ◌+◌, ◌-◌, ◌≤◌, Bool, true, false, not, ◌||◌, List, [], ◌∷◌, ◌++◌, length, take, Some, None, Option, Result, ◌==◌, nat_lt}

@@ -88,7 +88,7 @@ bytes_same text l m r h =
     let f : m.offset + m.length - m.offset ≡ m.length = omega arith in
     same_from_decides r (bytes_eq (label_bytes text l) (label_bytes text m)) (rw (e, f) at h) (bytes_eq-Decides (label_bytes text l) (label_bytes text m))
 
--- the contexts below-top the topmost
+-- the contexts below the topmost
 pub labels_take : (text : List ℕ) (cs : List Ctx) (n : ℕ) → LabelsFit text cs → LabelsFit text (take n cs)
 labels_take text cs n h k d l =
     let m : k < length cs = (let z = length-take n cs in omega arith) in
