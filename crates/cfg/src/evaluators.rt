@@ -2,7 +2,6 @@
 ghost use Rattle.cfg.specs.Evaluators.{same_kind, of_node};
 
 use crate::loop_query::EvalConstCondition;
-use graph::among::is_among;
 use kinds::block::{Instruction, InstructionKind, NodeId};
 
 // Finds the instructions of one kind true.
@@ -15,7 +14,7 @@ impl EvalConstCondition for TrueKind {
     ghost holds = { λ e i. same_kind e.kind i.kind };
 
     fn eval(&self, instruction: Instruction) -> bool {
-        instruction.kind.number() == self.kind.number()
+        instruction.kind == self.kind
     }
 }
 
@@ -30,7 +29,7 @@ impl<'a> EvalConstCondition for TrueNodes<'a> {
 
     fn eval(&self, instruction: Instruction) -> bool {
         match instruction.node_id {
-            Some(node) => is_among(node, self.nodes),
+            Some(node) => self.nodes.contains(&node),
             None => false,
         }
     }

@@ -1,4 +1,3 @@
 pub mod Meaning
 pub mod Places
-pub mod Any
 pub mod Among

@@ -1,5 +1,4 @@
 // The graph interface.
 #![tactic(auto)]
 
-pub mod among;
 pub mod graph;

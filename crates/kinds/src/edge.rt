@@ -2,7 +2,7 @@
 use crate::block::BlockNodeId;
 
 // Which errors an error edge stands for.
-#[derive(Clone, Copy)]
+#[derive(Clone, Copy, PartialEq, Eq)]
 pub enum ErrorEdgeKind {
     // those of a block that can throw, led to the catch block that handles them
     Explicit,
@@ -11,7 +11,7 @@ pub enum ErrorEdgeKind {
 }
 
 // What a step along an edge means.
-#[derive(Clone, Copy)]
+#[derive(Clone, Copy, PartialEq, Eq)]
 pub enum EdgeType {
     // a branch that is taken: a condition that holds, a break or a continue
     Jump,

@@ -1,22 +1,10 @@
 // The filters: pass all, a set of closed blocks, a border.
-ghost use Rattle.std.specs.Prelude.{◌≡◌, false, if◌then◌else◌};
+ghost use Rattle.std.specs.Prelude.{false, if◌then◌else◌};
 ghost use Rattle.walk.specs.declared.event.Control.TheVariants.{Continue, Prune, Break};
-ghost use Rattle.query.specs.Among.{among};
+ghost use Rattle.graph.specs.Among.{among};
 
 use crate::filter::Filter;
 use walk::event::Control;
-
-// Whether the block is one of `blocks`. O(blocks).
-fn is_among(block: u32, blocks: &[u32]) -> bool
-    ensures { result ≡ among block blocks.now }
-{
-    for b in blocks {
-        if *b == block {
-            return true;
-        }
-    }
-    false
-}
 
 // Lets every block pass.
 #[derive(Clone, Copy)]
@@ -40,7 +28,7 @@ impl<'a> Filter for ClosedBlocks<'a> {
     ghost meaning = { λ f b. (if among b f.blocks.now then Prune else Continue) };
 
     fn filter(&self, block: u32) -> Control<bool> {
-        if is_among(block, self.blocks) {
+        if self.blocks.contains(&block) {
             Control::Prune
         } else {
             Control::Continue
@@ -58,7 +46,7 @@ impl<'a> Filter for Border<'a> {
     ghost meaning = { λ f b. (if among b f.blocks.now then Break false else Continue) };
 
     fn filter(&self, block: u32) -> Control<bool> {
-        if is_among(block, self.blocks) {
+        if self.blocks.contains(&block) {
             Control::Break(false)
         } else {
             Control::Continue

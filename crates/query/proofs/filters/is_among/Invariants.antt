@@ -1,7 +1,0 @@
--- What is left decides.
-use Rattle.std.proofs.Common.{◌≡◌, drop}
-use Rattle.query.specs.Among.{among}
-use Rattle.query.proofs.filters.is_among.Given as goal
-
-abbrev pub invariant-loop-b : goal.invariant-loop-b
-invariant-loop-b l = among l.block l.blocks ≡ among l.block (drop l.b-index l.blocks)
