@@ -1,40 +1,40 @@
 -- The newest of a stack, and a stack that has none.
-use Rattle.std.proofs.Common.{◌≡◌, ℕ, ◌+◌, ◌-◌, ◌<◌, ◌≤◌, false, not, ltb, List, [], ◌∷◌, ◌++◌, length, get_or, take, Some, None, Ok, Option, sym, refl, ap, ◌∙◌, arith}
-use Rattle.std.proofs.lemmas.List.{take_all, take_more}
+use Rattle.std.proofs.Common.{◌≡◌, ℕ, zero, suc, ◌-◌, ◌<◌, ◌≤◌, false, not, ltb, List, [], ◌∷◌, length, Some, None, Ok, Option, sym, refl, ap, ◌∙◌, arith, MatchOption}
 use Rattle.std.proofs.lemmas.Bool.{lt-ltb}
-use Rattle.block_builder.specs.BlockState.{BlockState, Performs, block_count, nothing, last_of, or_last, without_last, finalizer_mismatch, finalizer_release_refusal, finalizer_released, with_finalizers}
+use Rattle.std.proofs.lemmas.Option.{slice_get-get_or}
+use Rattle.std.specs.List.{slice_get}
+use Rattle.std.specs.Option.{option_flatten}
+use Rattle.block_builder.specs.BlockState.{BlockState, Performs, block_count, nothing, last_of, without_last, finalizer_mismatch, finalizer_release_refusal, finalizer_released, with_finalizers}
+use Rattle.blocks.specs.Highest.{highest}
 use Rattle.kinds.specs.Replies.{after, told}
+use Rattle.store.specs.Links.{code}
 
-last_push : {X : Type 0} (xs : List X) (x : X) → last_of (xs ++ x ∷ []) ≡ Some x
-last_push [] x = refl
-last_push (y ∷ xs) x = ap (or_last y) (last_push xs x)
+-- what holds of the highest holds of each
+under : {X : Type 0} (f : X → ℕ) (xs : List X) (i n : ℕ) → highest f xs ≤ n → MatchOption (slice_get xs i) (⊥ → ⊥) (λ x. f x ≤ n)
+under f [] i n h = λ z. z
+under f (x ∷ xs) zero n h = omega arith
+under f (x ∷ xs) (suc i) n h = under f xs i n (omega arith)
 
-last_item : {X : Type 0} (xs : List X) (x : X) → 0 < length xs → x ≡ get_or xs (length xs - 1) x → last_of xs ≡ Some x
-last_item xs x l e =
-    let lt : length xs - 1 < length xs = omega arith in
-    let le : length xs ≤ length xs - 1 + 1 = omega arith in
-    let t : xs ≡ take (length xs - 1) xs ++ get_or xs (length xs - 1) x ∷ [] =
-    sym (take_all (length xs - 1 + 1) xs le) ∙ take_more xs (length xs - 1) x lt in
-    ap last_of t ∙ last_push (take (length xs - 1) xs) (get_or xs (length xs - 1) x) ∙ ap Some (sym e)
+pub last_under : {X : Type 0} (f : X → ℕ) (xs : List X) (o : Option X) (n : ℕ) → o ≡ last_of xs → highest f xs ≤ n
+    → MatchOption o (⊥ → ⊥) (λ x. f x ≤ n)
+last_under f xs o n e h = rw e (under f xs (length xs - 1) n h)
 
--- what `last` answers of xs, which it reads as ys
-pub last_some : {X : Type 0} (ys xs : List X) (x : X) → ys ≡ xs → 0 < length ys → x ≡ get_or ys (length ys - 1) x → Some x ≡ last_of xs
-last_some ys xs x e l g = sym (ap last_of (sym e) ∙ last_item ys x l g)
+-- what holds of the highest holds of the last block of a stack with empty marks
+flatten_under : (o : Option (Option ℕ)) (n : ℕ) → MatchOption o (⊥ → ⊥) (λ x. code x ≤ n) → MatchOption (option_flatten o) (⊥ → ⊥) (λ b. b < n)
+flatten_under None n h = λ z. z
+flatten_under (Some None) n h = λ z. z
+flatten_under (Some (Some b)) n h = omega arith
 
-empty_last : {X : Type 0} (xs : List X) → length xs ≤ 0 → last_of xs ≡ None
-empty_last [] l = refl
-empty_last (x ∷ xs) l = absurd (omega arith)
-
-pub last_none : {X : Type 0} (ys xs : List X) → ys ≡ xs → length ys ≤ 0 → None ≡ last_of xs
-last_none ys xs e l = sym (ap last_of (sym e) ∙ empty_last ys l)
-
-some_last : {X : Type 0} (x : X) (o : Option X) → None ≡ or_last x o → ⊥
-some_last x None e = let z : ◌≡◌ {A = ℕ} 0 1 = cc in omega arith
-some_last x (Some y) e = let z : ◌≡◌ {A = ℕ} 0 1 = cc in omega arith
+pub finalizer_under : (xs : List (Option ℕ)) (r : Option ℕ) (n : ℕ) → r ≡ option_flatten (last_of xs) → highest code xs ≤ n
+    → MatchOption r (⊥ → ⊥) (λ b. b < n)
+finalizer_under xs r n e h = rw e (flatten_under (last_of xs) n (last_under code xs (last_of xs) n refl h))
 
 empty_rest : {X : Type 0} (xs : List X) → None ≡ last_of xs → without_last xs ≡ xs
 empty_rest [] e = refl
-empty_rest (x ∷ xs) e = absurd (some_last x (last_of xs) e)
+empty_rest (x ∷ xs) e =
+    let g = slice_get-get_or (x ∷ xs) (length (x ∷ xs) - 1) x (omega arith) in
+    let z : ◌≡◌ {A = ℕ} 0 1 = cc in
+    absurd (omega arith)
 
 not_refused : (b : ℕ) (s : BlockState) → b < block_count s → None ≡ last_of s.finalizers → finalizer_release_refusal b s ≡ None
 not_refused b s l e =

@@ -8,7 +8,9 @@
 --   .._refusal                 the rows of a call's refusals, tried from the top
 --   Room                       how many more blocks, edges and so on a call needs
 --   first_full n s             FULL with the first table of s that has no room for what is needed, none where all have
-use Rattle.std.specs.Prelude.{◌≡◌, ℕ, suc, ◌+◌, ◌-◌, ◌≤◌, Bool, true, false, not, ◌||◌, List, [], ◌∷◌, ◌++◌, length, take, Some, None, Option, Result, ◌==◌, nat_lt}
+use Rattle.std.specs.Prelude.{◌≡◌, ℕ, suc, ◌+◌, ◌-◌, ◌<◌, ◌≤◌, Bool, true, false, not, ◌||◌, List, [], ◌∷◌, ◌++◌, length, take, Some, None, Option, Result, MatchOption, ◌==◌, nat_lt}
+use Rattle.std.specs.List.{slice_get}
+use Rattle.block_builder.specs.declared.block_builder.append.Ties.{Ties}
 use Rattle.block_builder.specs.declared.harness.ErrorHarness.{ErrorHarness}
 use Rattle.block_builder.specs.declared.room.Room.{Room}
 use Rattle.blocks.specs.Blocks.{GraphState, empty, edge_added, block_added, instruction_added, mark_set}
@@ -65,13 +67,8 @@ pub record Fits (n : Room) (s : BlockState) : Type 0 where
   pub finalizers : length s.finalizers + n.finalizers ≤ 64
 
 -- the newest of a stack, and the stack without it
-abbrev pub or_last : {X : Type 0} → X → Option X → Option X
-or_last x None = Some x
-or_last x (Some y) = Some y
-
 abbrev pub last_of : {X : Type 0} → List X → Option X
-last_of [] = None
-last_of (x ∷ xs) = or_last x (last_of xs)
+last_of xs = slice_get xs (length xs - 1)
 
 abbrev pub without_last : {X : Type 0} → List X → List X
 without_last xs = take (length xs - 1) xs
@@ -208,16 +205,28 @@ block_made h f s = record {
   finalizers = s.finalizers;
 }
 
--- new_basic_block_normal: the harness is the newest
-abbrev pub normal_room : Option ℕ → Room
-normal_room f = record { blocks = 1; edges = 1 + count_of f; instructions = 0; harnesses = 0; finalizers = 0 }
+-- a new block that takes e edges beside that to its finalizer f, and i instructions, tied to the newest harness
+abbrev pub block_room : ℕ → ℕ → Option ℕ → Room
+block_room e i f = record { blocks = 1; edges = e + count_of f; instructions = i; harnesses = 0; finalizers = 0 }
 
-abbrev pub normal_full : Option ErrorHarness → BlockState → Option Refusal
-normal_full None s = Some NoHarness
-normal_full (Some h) s = first_full (normal_room (finalizer_of s.finalizers)) s
+abbrev pub block_full_by : Option ErrorHarness → ℕ → ℕ → BlockState → Option Refusal
+block_full_by None e i s = Some NoHarness
+block_full_by (Some h) e i s = first_full (block_room e i (finalizer_of s.finalizers)) s
 
+abbrev pub block_full : ℕ → ℕ → BlockState → Option Refusal
+block_full e i s = block_full_by (last_of s.harnesses) e i s
+
+-- the newest harness and finalizer, where there are a harness and room for such a block
+pub record Tied (e i : ℕ) (s : BlockState) (t : Ties) : Type 0 where
+  pub harness : last_of s.harnesses ≡ Some t.harness
+  pub finalizer : t.finalizer ≡ finalizer_of s.finalizers
+  pub harness_known : t.harness.block < block_count s
+  pub finalizer_known : MatchOption t.finalizer (⊥ → ⊥) (λ b. b < block_count s)
+  pub fits : Fits (block_room e i t.finalizer) s
+
+-- new_basic_block_normal
 abbrev pub normal_refusal : BlockState → Option Refusal
-normal_refusal s = normal_full (last_of s.harnesses) s
+normal_refusal s = block_full 1 0 s
 
 abbrev pub normal_made_by : Option ErrorHarness → BlockState → BlockState
 normal_made_by None s = s
@@ -242,15 +251,8 @@ abbrev pub unreachable_appended : BlockState → BlockState
 unreachable_appended s = unreachable_made_by (last_of s.harnesses) s
 
 -- i is how many instructions the whole call adds
-abbrev pub append_room : ℕ → Option ℕ → Room
-append_room i f = record { blocks = 1; edges = 2 + count_of f; instructions = i; harnesses = 0; finalizers = 0 }
-
-abbrev pub append_full_by : Option ErrorHarness → ℕ → BlockState → Option Refusal
-append_full_by None i s = Some NoHarness
-append_full_by (Some h) i s = first_full (append_room i (finalizer_of s.finalizers)) s
-
 abbrev pub append_full : ℕ → BlockState → Option Refusal
-append_full i s = append_full_by (last_of s.harnesses) i s
+append_full i s = block_full 2 i s
 
 abbrev pub append_refusal : ℕ → BlockState → Option Refusal
 append_refusal i s = row (no_block s.current s) NoBlock (append_full i s)

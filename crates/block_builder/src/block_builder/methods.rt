@@ -1,5 +1,5 @@
 // The graph and the current block.
-ghost use Rattle.std.specs.Prelude.{◌≡◌, ◌+◌, ◌≤◌, true, false, length, IfOk, MatchOption, nat_lt};
+ghost use Rattle.std.specs.Prelude.{◌≡◌, ◌+◌, ◌<◌, ◌≤◌, true, false, length, None, IfOk, nat_lt};
 ghost use Rattle.block_builder.specs.BlockState as state;
 ghost use Rattle.block_builder.specs.BlockState.{Performs, Fits, initial, block_count, nothing};
 ghost use Rattle.block_builder.specs.View.{state_of};
@@ -7,7 +7,7 @@ ghost use Rattle.blocks.specs.Highest.{highest};
 ghost use Rattle.blocks.specs.View.{graph_of};
 ghost use Rattle.contexts.specs.Contexts.{resolve_counts, drawn_of, top_drawn, below_top, waiting_count, block_bound};
 ghost use Rattle.contexts.specs.View.{contexts_of};
-ghost use Rattle.kinds.specs.Replies.{row};
+ghost use Rattle.kinds.specs.Replies.{row, told};
 ghost use Rattle.kinds.specs.declared.refusal.Refusal.TheVariants.{Full};
 
 use super::BlockBuilder;
@@ -20,21 +20,15 @@ use kinds::refusal::Refusal;
 use kinds::table::Table;
 use std::alloc::{AllocError, Global};
 
-// One row of the tables that may be full: this one, where it has no room, else what the rows below say.
-fn full(
-    table: Table,
-    held: usize,
-    needed: usize,
-    limit: usize,
-    rest: Option<Refusal>,
-) -> Option<Refusal>
-    ensures { result ≡ row (nat_lt limit (held + needed)) (Full table) rest }
+// FULL where a table that holds so many, and can hold no more than its limit, has no room for those needed.
+fn check_table(table: Table, held: usize, needed: usize, limit: usize) -> Result<(), Refusal>
+    ensures value { result ≡ told (row (nat_lt limit (held + needed)) (Full table) None) tt }
+    ensures fits { IfOk result (λ _. held + needed ≤ limit) }
 {
     if needed > limit || held > limit - needed {
-        Some(Refusal::Full(table))
-    } else {
-        rest
+        return Err(Refusal::Full(table));
     }
+    Ok(())
 }
 
 impl BlockBuilder {
@@ -67,45 +61,42 @@ impl BlockBuilder {
         self.current
     }
 
-    // FULL with the first table that has no room for what a call needs, none where all have. O(1).
-    pub fn first_full(&self, needed: Room) -> Option<Refusal>
-        ensures value { result ≡ state.first_full needed (state_of self.now) }
-        ensures fits { MatchOption result (Fits needed (state_of self.now)) (λ _. ⊥ → ⊥) }
+    // NO_BLOCK where the block does not exist. O(1).
+    pub fn check_block(&self, block: BlockNodeId) -> Result<(), Refusal>
+        ensures value { result ≡ told (state.block_refusal block (state_of self.now)) tt }
+        ensures known { IfOk result (λ _. block < block_count (state_of self.now)) }
     {
-        let rest = full(
-            Table::Finalizers,
-            self.finalizers.len(),
-            needed.finalizers,
-            64,
-            None,
-        );
-        let rest = full(
+        if block as usize >= self.graph.block_count() {
+            return Err(Refusal::NoBlock);
+        }
+        Ok(())
+    }
+
+    // FULL with the first table that has no room for what a call needs. O(1).
+    pub fn check_room(&self, needed: Room) -> Result<(), Refusal>
+        ensures value { result ≡ told (state.first_full needed (state_of self.now)) tt }
+        ensures fits { IfOk result (λ _. Fits needed (state_of self.now)) }
+    {
+        let graph = &self.graph;
+        check_table(Table::Blocks, graph.block_count(), needed.blocks, 512)?;
+        check_table(Table::Edges, graph.edge_count(), needed.edges, 2048)?;
+        check_table(
+            Table::Instructions,
+            graph.instruction_count(),
+            needed.instructions,
+            2048,
+        )?;
+        check_table(
             Table::Harnesses,
             self.error_path.len(),
             needed.harnesses,
             64,
-            rest,
-        );
-        let rest = full(
-            Table::Instructions,
-            self.graph.instruction_count(),
-            needed.instructions,
-            2048,
-            rest,
-        );
-        let rest = full(
-            Table::Edges,
-            self.graph.edge_count(),
-            needed.edges,
-            2048,
-            rest,
-        );
-        full(
-            Table::Blocks,
-            self.graph.block_count(),
-            needed.blocks,
-            512,
-            rest,
+        )?;
+        check_table(
+            Table::Finalizers,
+            self.finalizers.len(),
+            needed.finalizers,
+            64,
         )
     }
 
@@ -113,9 +104,7 @@ impl BlockBuilder {
     pub fn set_current(&mut self, block: BlockNodeId) -> Result<(), Refusal>
         ensures { Performs (state.block_refusal block) (state.with_current block) nothing (state_of self.old) (state_of self.new) result }
     {
-        if block as usize >= self.graph.block_count() {
-            return Err(Refusal::NoBlock);
-        }
+        self.check_block(block)?;
         self.current = block;
         Ok(())
     }
@@ -124,9 +113,7 @@ impl BlockBuilder {
     pub fn mark_as_reachable(&mut self, block: BlockNodeId) -> Result<(), Refusal>
         ensures { Performs (state.block_refusal block) (state.marked block false) nothing (state_of self.old) (state_of self.new) result }
     {
-        if block as usize >= self.graph.block_count() {
-            return Err(Refusal::NoBlock);
-        }
+        self.check_block(block)?;
         self.graph.mark_as_reachable(block);
         Ok(())
     }
@@ -135,9 +122,7 @@ impl BlockBuilder {
     pub fn mark_as_unreachable(&mut self, block: BlockNodeId) -> Result<(), Refusal>
         ensures { Performs (state.block_refusal block) (state.marked block true) nothing (state_of self.old) (state_of self.new) result }
     {
-        if block as usize >= self.graph.block_count() {
-            return Err(Refusal::NoBlock);
-        }
+        self.check_block(block)?;
         self.graph.mark_as_unreachable(block);
         Ok(())
     }
@@ -151,16 +136,12 @@ impl BlockBuilder {
     ) -> Result<(), Refusal>
         ensures { Performs (state.edge_refusal a b) (state.linked a b kind) nothing (state_of self.old) (state_of self.new) result }
     {
-        let n = self.graph.block_count();
-        if a as usize >= n || b as usize >= n {
-            return Err(Refusal::NoBlock);
-        }
-        if let Some(refusal) = self.first_full(Room {
+        self.check_block(a)?;
+        self.check_block(b)?;
+        self.check_room(Room {
             edges: 1,
             ..Room::NONE
-        }) {
-            return Err(refusal);
-        }
+        })?;
         self.graph.add_edge(a, b, kind);
         Ok(())
     }
@@ -174,15 +155,11 @@ impl BlockBuilder {
     ) -> Result<(), Refusal>
         ensures { Performs (state.instruction_refusal block) (state.instruction_pushed block kind node_id) nothing (state_of self.old) (state_of self.new) result }
     {
-        if block as usize >= self.graph.block_count() {
-            return Err(Refusal::NoBlock);
-        }
-        if let Some(refusal) = self.first_full(Room {
+        self.check_block(block)?;
+        self.check_room(Room {
             instructions: 1,
             ..Room::NONE
-        }) {
-            return Err(refusal);
-        }
+        })?;
         self.graph
             .push_instruction_to(block, Instruction { kind, node_id });
         Ok(())

@@ -1,11 +1,13 @@
 // Contexts, and the breaks and continues that lead out of them. Each call does what the book says of it, refused or not.
-ghost use Rattle.std.specs.Prelude.{◌≡◌, ◌+◌, ◌<◌, ◌≤◌, true, length, MatchOption};
+ghost use Rattle.std.specs.Prelude.{◌≡◌, ◌+◌, ◌<◌, ◌≤◌, true, length, None, IfOk, MatchOption};
 ghost use Rattle.block_builder.specs.BlockState.{block_count, count_of};
-ghost use Rattle.book.specs.Book.{Follows, no_reply, entries_full, filed, instruction_of, found_for, yes, counts_of, beyond as beyond-of, with_contexts, continue_given};
+ghost use Rattle.book.specs.Book.{Follows, bad_label, no_reply, entries_full, filed, instruction_of, found_for, yes, counts_of, beyond as beyond-of, with_contexts, continue_given};
 ghost use Rattle.book.specs.declared.call.Call.TheVariants as call;
 ghost use Rattle.builder.specs.View.{book_of};
-ghost use Rattle.contexts.specs.Contexts.{waiting_count, upper_label};
+ghost use Rattle.contexts.specs.Contexts.{label_fits, waiting_count, upper_label};
+ghost use Rattle.kinds.specs.Replies.{row, told};
 ghost use Rattle.kinds.specs.declared.context.EntryKind.TheVariants.{Break, Continue};
+ghost use Rattle.kinds.specs.declared.refusal.Refusal.TheVariants.{BadLabel};
 ghost use Rattle.store.specs.Links.{code};
 
 use super::ControlFlowGraphBuilder;
@@ -14,17 +16,6 @@ use kinds::block::{BlockNodeId, InstructionKind, LabeledInstruction, NodeId};
 use kinds::context::{CtxFlags, EntryKind, Label};
 use kinds::refusal::Refusal;
 use kinds::table::Table;
-
-// 1 for a context found, 0 for none.
-fn count(found: Option<usize>) -> usize
-    ensures value { result ≡ count_of found }
-    ensures bound { result ≤ 1 }
-{
-    match found {
-        Some(_) => 1,
-        None => 0,
-    }
-}
 
 // Whether some flag is set that is not expected.
 fn beyond(flags: CtxFlags, expectation: CtxFlags) -> bool
@@ -50,13 +41,22 @@ fn instruction(kind: EntryKind, label: Option<Label>) -> InstructionKind
 }
 
 impl<'a> ControlFlowGraphBuilder<'a> {
-    // Opens a context. O(1).
-    pub fn new_ctx(&mut self, label: Option<Label>, flags: CtxFlags) -> Result<(), Refusal>
-        ensures { Follows (call.New label flags) no_reply (book_of self.old) (book_of self.new) result }
+    // BAD_LABEL where a label reaches past the end of the text.
+    fn check_label(&self, label: Option<Label>) -> Result<(), Refusal>
+        ensures value { result ≡ told (row (bad_label label (book_of self.now)) BadLabel None) tt }
+        ensures fits { IfOk result (λ _. label_fits (book_of self.now).text label ≡ true) }
     {
         if !self.contexts.label_fits(label) {
             return Err(Refusal::BadLabel);
         }
+        Ok(())
+    }
+
+    // Opens a context. O(1).
+    pub fn new_ctx(&mut self, label: Option<Label>, flags: CtxFlags) -> Result<(), Refusal>
+        ensures { Follows (call.New label flags) no_reply (book_of self.old) (book_of self.new) result }
+    {
+        self.check_label(label)?;
         if self.contexts.len() >= 64 {
             return Err(Refusal::Full(Table::Contexts));
         }
@@ -93,17 +93,17 @@ impl<'a> ControlFlowGraphBuilder<'a> {
     }
 
     // FULL where there is no room for one more break or continue, filed where it was found.
-    fn entry_refusal(&self, found: Option<usize>) -> Option<Refusal>
-        ensures value { result ≡ entries_full (count_of found) (book_of self.now) }
-        ensures room { MatchOption result ((waiting_count (book_of self.now).contexts + count_of found ≤ 512) × ((book_of self.now).given + 1 ≤ 65535)) (λ _. ⊥ → ⊥) }
+    fn check_entry(&self, found: Option<usize>) -> Result<(), Refusal>
+        ensures value { result ≡ told (entries_full (count_of found) (book_of self.now)) tt }
+        ensures room { IfOk result (λ _. (waiting_count (book_of self.now).contexts + count_of found ≤ 512) × ((book_of self.now).given + 1 ≤ 65535)) }
     {
-        if self.contexts.waiting_count() > 512 - count(found) {
-            return Some(Refusal::Full(Table::Entries));
+        if self.contexts.waiting_count() > 512 - usize::from(found.is_some()) {
+            return Err(Refusal::Full(Table::Entries));
         }
         if self.given >= 65535 {
-            return Some(Refusal::Full(Table::Given));
+            return Err(Refusal::Full(Table::Given));
         }
-        None
+        Ok(())
     }
 
     // Counts a break or a continue from a block, and files it in the context found, if one was.
@@ -126,16 +126,10 @@ impl<'a> ControlFlowGraphBuilder<'a> {
         ensures { Follows (call.File kind label) (found_for kind label) (book_of self.old) (book_of self.new) result }
     {
         let block = self.blocks.current();
-        if block as usize >= self.blocks.block_count() {
-            return Err(Refusal::NoBlock);
-        }
-        if !self.contexts.label_fits(label) {
-            return Err(Refusal::BadLabel);
-        }
+        self.blocks.check_block(block)?;
+        self.check_label(label)?;
         let found = self.contexts.find(kind, label);
-        if let Some(refusal) = self.entry_refusal(found) {
-            return Err(refusal);
-        }
+        self.check_entry(found)?;
         self.file_in(kind, block, found);
         Ok(found.is_some())
     }
@@ -159,15 +153,9 @@ impl<'a> ControlFlowGraphBuilder<'a> {
         ensures { Follows (call.FileOnTop kind) yes (book_of self.old) (book_of self.new) result }
     {
         let block = self.blocks.current();
-        if block as usize >= self.blocks.block_count() {
-            return Err(Refusal::NoBlock);
-        }
-        let Some(top) = self.contexts.top() else {
-            return Err(Refusal::NoContext);
-        };
-        if let Some(refusal) = self.entry_refusal(Some(top)) {
-            return Err(refusal);
-        }
+        self.blocks.check_block(block)?;
+        let top = self.contexts.top().ok_or(Refusal::NoContext)?;
+        self.check_entry(Some(top))?;
         self.file_in(kind, block, Some(top));
         Ok(true)
     }
@@ -196,19 +184,11 @@ impl<'a> ControlFlowGraphBuilder<'a> {
         ensures { Follows (call.Append kind node label) (found_for kind label) (book_of self.old) (book_of self.new) result }
     {
         let block = self.blocks.current();
-        if block as usize >= self.blocks.block_count() {
-            return Err(Refusal::NoBlock);
-        }
-        if !self.contexts.label_fits(label) {
-            return Err(Refusal::BadLabel);
-        }
-        if let Some(refusal) = self.blocks.terminator_refusal() {
-            return Err(refusal);
-        }
+        self.blocks.check_block(block)?;
+        self.check_label(label)?;
+        self.blocks.check_terminator()?;
         let found = self.contexts.find(kind, label);
-        if let Some(refusal) = self.entry_refusal(found) {
-            return Err(refusal);
-        }
+        self.check_entry(found)?;
         let _ = self
             .blocks
             .append_terminator(instruction(kind, label), Some(node));
@@ -239,12 +219,8 @@ impl<'a> ControlFlowGraphBuilder<'a> {
     ) -> Result<bool, Refusal>
         ensures { Follows (call.Mark kind label jmp_pos) (found_for kind label) (book_of self.old) (book_of self.new) result }
     {
-        if jmp_pos as usize >= self.blocks.block_count() {
-            return Err(Refusal::NoBlock);
-        }
-        if !self.contexts.label_fits(label) {
-            return Err(Refusal::BadLabel);
-        }
+        self.blocks.check_block(jmp_pos)?;
+        self.check_label(label)?;
         let Some(context) = self.contexts.find(kind, label) else {
             return Ok(false);
         };
@@ -281,12 +257,8 @@ impl<'a> ControlFlowGraphBuilder<'a> {
     fn mark_on_top(&mut self, kind: EntryKind, jmp_pos: BlockNodeId) -> Result<bool, Refusal>
         ensures { Follows (call.MarkOnTop kind jmp_pos) yes (book_of self.old) (book_of self.new) result }
     {
-        if jmp_pos as usize >= self.blocks.block_count() {
-            return Err(Refusal::NoBlock);
-        }
-        let Some(top) = self.contexts.top() else {
-            return Err(Refusal::NoContext);
-        };
+        self.blocks.check_block(jmp_pos)?;
+        let top = self.contexts.top().ok_or(Refusal::NoContext)?;
         if self.contexts.target(top, kind).is_some() {
             return Err(Refusal::Marked);
         }
@@ -312,9 +284,7 @@ impl<'a> ControlFlowGraphBuilder<'a> {
     fn allow(&mut self, kind: EntryKind) -> Result<bool, Refusal>
         ensures { Follows (call.Allow kind) yes (book_of self.old) (book_of self.new) result }
     {
-        let Some(top) = self.contexts.top() else {
-            return Err(Refusal::NoContext);
-        };
+        let top = self.contexts.top().ok_or(Refusal::NoContext)?;
         self.contexts.allow(top, kind);
         Ok(true)
     }
@@ -342,12 +312,10 @@ impl<'a> ControlFlowGraphBuilder<'a> {
         let Some((drawn, untargeted)) = self.contexts.resolve_counts() else {
             return Ok(None);
         };
-        if let Some(refusal) = self.blocks.first_full(Room {
+        self.blocks.check_room(Room {
             edges: drawn,
             ..Room::NONE
-        }) {
-            return Err(refusal);
-        }
+        })?;
         self.blocks.resolve(&mut self.contexts);
         self.drawn += drawn;
         self.untargeted += untargeted;
@@ -361,9 +329,7 @@ impl<'a> ControlFlowGraphBuilder<'a> {
     ) -> Result<Option<(usize, usize)>, Refusal>
         ensures { Follows (call.ResolveExpect expectation) counts_of (book_of self.old) (book_of self.new) result }
     {
-        let Some(flags) = self.contexts.top_flags() else {
-            return Err(Refusal::NoContext);
-        };
+        let flags = self.contexts.top_flags().ok_or(Refusal::NoContext)?;
         if beyond(flags, expectation) {
             return Err(Refusal::Flags);
         }
@@ -375,13 +341,9 @@ impl<'a> ControlFlowGraphBuilder<'a> {
         requires { code target ≤ block_count (book_of self.old).blocks }
         ensures { book_of self.new ≡ with_contexts (continue_given target (upper_label (book_of self.old).contexts) (book_of self.old).contexts) (book_of self.old) }
     {
-        let Some(target) = target else {
-            return;
-        };
-        let Some(context) = self.contexts.upper_label() else {
-            return;
-        };
-        self.contexts.mark(context, EntryKind::Continue, target);
+        if let (Some(target), Some(context)) = (target, self.contexts.upper_label()) {
+            self.contexts.mark(context, EntryKind::Continue, target);
+        }
     }
 
     // Resolves the topmost context, and gives its continue target to the one below, if that is labelled and has none. O(waiting entries).
@@ -389,12 +351,8 @@ impl<'a> ControlFlowGraphBuilder<'a> {
         ensures { Follows call.ResolveWithUpperLabel counts_of (book_of self.old) (book_of self.new) result }
     {
         let target = self.contexts.top_continue();
-        match self.resolve() {
-            Ok(pair) => {
-                self.give_continue(target);
-                Ok(pair)
-            }
-            Err(refusal) => Err(refusal),
-        }
+        let counts = self.resolve()?;
+        self.give_continue(target);
+        Ok(counts)
     }
 }

@@ -17,6 +17,7 @@ use kinds::edge::{EdgeType, ErrorEdgeKind};
 use kinds::refusal::Refusal;
 use std::alloc::{AllocError, Global};
 
+#[tactic(auto, using(crate::proofs::Forwards::forwarded))]
 impl<'a> ControlFlowGraphBuilder<'a> {
     // A builder over a text. All tables are made at their full size here, so that no later call can want memory.
     pub fn new(heap: Global, text: &'a [u8]) -> Result<ControlFlowGraphBuilder<'a>, AllocError>
