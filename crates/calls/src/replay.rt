@@ -7,7 +7,7 @@ ghost use Rattle.book.specs.declared.call.Call.TheVariants as call-of;
 ghost use Rattle.builder.specs.View.{book_of};
 ghost use Rattle.calls.specs.Results.{Applied};
 
-use crate::replies;
+use crate::replies::told;
 use book::call::Call;
 use book::reply::Reply;
 use builder::builder::ControlFlowGraphBuilder;
@@ -16,118 +16,56 @@ use kinds::context::{EntryKind, Label};
 use kinds::refusal::Refusal;
 use std::alloc::{AllocError, Global};
 
-fn append(
-    builder: &mut ControlFlowGraphBuilder,
-    kind: EntryKind,
-    node: NodeId,
-    label: Option<Label>,
-) -> Result<bool, Refusal>
-    ensures { Follows (call-of.Append kind node label) (found_for kind label) (book_of builder.old) (book_of builder.new) result }
-{
-    match kind {
-        EntryKind::Break => builder.append_break(node, label),
-        EntryKind::Continue => builder.append_continue(node, label),
-    }
-}
-
-fn file(
-    builder: &mut ControlFlowGraphBuilder,
-    kind: EntryKind,
-    label: Option<Label>,
-) -> Result<bool, Refusal>
-    ensures { Follows (call-of.File kind label) (found_for kind label) (book_of builder.old) (book_of builder.new) result }
-{
-    match kind {
-        EntryKind::Break => builder.break_entry(label),
-        EntryKind::Continue => builder.continue_entry(label),
-    }
-}
-
-fn file_on_top(builder: &mut ControlFlowGraphBuilder, kind: EntryKind) -> Result<bool, Refusal>
-    ensures { Follows (call-of.FileOnTop kind) yes (book_of builder.old) (book_of builder.new) result }
-{
-    match kind {
-        EntryKind::Break => builder.top_break_entry(),
-        EntryKind::Continue => builder.top_continue_entry(),
-    }
-}
-
-fn mark(
-    builder: &mut ControlFlowGraphBuilder,
-    kind: EntryKind,
-    label: Option<Label>,
-    jmp_pos: BlockNodeId,
-) -> Result<bool, Refusal>
-    ensures { Follows (call-of.Mark kind label jmp_pos) (found_for kind label) (book_of builder.old) (book_of builder.new) result }
-{
-    match kind {
-        EntryKind::Break => builder.mark_break(label, jmp_pos),
-        EntryKind::Continue => builder.mark_continue(label, jmp_pos),
-    }
-}
-
-fn mark_on_top(
-    builder: &mut ControlFlowGraphBuilder,
-    kind: EntryKind,
-    jmp_pos: BlockNodeId,
-) -> Result<bool, Refusal>
-    ensures { Follows (call-of.MarkOnTop kind jmp_pos) yes (book_of builder.old) (book_of builder.new) result }
-{
-    match kind {
-        EntryKind::Break => builder.top_mark_break(jmp_pos),
-        EntryKind::Continue => builder.top_mark_continue(jmp_pos),
-    }
-}
-
-fn allow(builder: &mut ControlFlowGraphBuilder, kind: EntryKind) -> Result<bool, Refusal>
-    ensures { Follows (call-of.Allow kind) yes (book_of builder.old) (book_of builder.new) result }
-{
-    match kind {
-        EntryKind::Break => builder.allow_break(),
-        EntryKind::Continue => builder.allow_continue(),
-    }
-}
-
 // The builder's method for each call.
 fn dispatch(builder: &mut ControlFlowGraphBuilder, call: Call) -> Reply
     ensures { Applied call (book_of builder.old) (book_of builder.new) result }
 {
     match call {
-        Call::AttachErrorHarness(kind) => replies::block(builder.attach_error_harness(kind)),
-        Call::ReleaseErrorHarness(block) => replies::done(builder.release_error_harness(block)),
-        Call::AttachFinalizer => replies::block(builder.attach_finalizer()),
-        Call::ReleaseFinalizer(block) => replies::done(builder.release_finalizer(block)),
-        Call::PushFinalizationStack => replies::done(builder.push_finalization_stack()),
-        Call::PopFinalizationStack => replies::done(builder.pop_finalization_stack()),
-        Call::NewBasicBlockNormal => replies::block(builder.new_basic_block_normal()),
-        Call::NewBasicBlockFunction => replies::block(builder.new_basic_block_function()),
+        Call::AttachErrorHarness(kind) => told(builder.attach_error_harness(kind), Reply::Block),
+        Call::ReleaseErrorHarness(block) => told(
+            builder.release_error_harness(block),
+            |()| Reply::Done,
+        ),
+        Call::AttachFinalizer => told(builder.attach_finalizer(), Reply::Block),
+        Call::ReleaseFinalizer(block) => told(builder.release_finalizer(block), |()| Reply::Done),
+        Call::PushFinalizationStack => told(builder.push_finalization_stack(), |()| Reply::Done),
+        Call::PopFinalizationStack => told(builder.pop_finalization_stack(), |()| Reply::Done),
+        Call::NewBasicBlockNormal => told(builder.new_basic_block_normal(), Reply::Block),
+        Call::NewBasicBlockFunction => told(builder.new_basic_block_function(), Reply::Block),
         Call::Current => Reply::Block(builder.current()),
-        Call::SetCurrent(block) => replies::done(builder.set_current(block)),
-        Call::MarkAsReachable(block) => replies::done(builder.mark_as_reachable(block)),
-        Call::MarkAsUnreachable(block) => replies::done(builder.mark_as_unreachable(block)),
-        Call::AddEdge(a, b, kind) => replies::done(builder.add_edge(a, b, kind)),
-        Call::PushStatement(node) => replies::done(builder.push_statement(node)),
-        Call::EnterStatement(node) => replies::done(builder.enter_statement(node)),
-        Call::PushReturn(kind, node) => replies::done(builder.push_return(kind, node)),
-        Call::PushImplicitReturn => replies::done(builder.push_implicit_return()),
-        Call::AppendIteration(node, kind) => replies::done(builder.append_iteration(node, kind)),
-        Call::AppendConditionTo(block, node) => replies::done(builder.append_condition_to(
-            block, node,
-        )),
-        Call::AppendUnreachable => replies::done(builder.append_unreachable()),
-        Call::AppendThrow(node) => replies::done(builder.append_throw(node)),
-        Call::Append(kind, node, label) => replies::found(append(builder, kind, node, label)),
-        Call::New(label, flags) => replies::done(builder.new_ctx(label, flags)),
-        Call::Default(label) => replies::done(builder.default_ctx(label)),
-        Call::NewFunction(label) => replies::done(builder.new_function_ctx(label)),
-        Call::File(kind, label) => replies::found(file(builder, kind, label)),
-        Call::FileOnTop(kind) => replies::found(file_on_top(builder, kind)),
-        Call::Mark(kind, label, jmp_pos) => replies::found(mark(builder, kind, label, jmp_pos)),
-        Call::MarkOnTop(kind, jmp_pos) => replies::found(mark_on_top(builder, kind, jmp_pos)),
-        Call::Allow(kind) => replies::found(allow(builder, kind)),
-        Call::Resolve => replies::resolved(builder.resolve()),
-        Call::ResolveExpect(flags) => replies::resolved(builder.resolve_expect(flags)),
-        Call::ResolveWithUpperLabel => replies::resolved(builder.resolve_with_upper_label()),
+        Call::SetCurrent(block) => told(builder.set_current(block), |()| Reply::Done),
+        Call::MarkAsReachable(block) => told(builder.mark_as_reachable(block), |()| Reply::Done),
+        Call::MarkAsUnreachable(block) => told(
+            builder.mark_as_unreachable(block),
+            |()| Reply::Done,
+        ),
+        Call::AddEdge(a, b, kind) => told(builder.add_edge(a, b, kind), |()| Reply::Done),
+        Call::PushStatement(node) => told(builder.push_statement(node), |()| Reply::Done),
+        Call::EnterStatement(node) => told(builder.enter_statement(node), |()| Reply::Done),
+        Call::PushReturn(kind, node) => told(builder.push_return(kind, node), |()| Reply::Done),
+        Call::PushImplicitReturn => told(builder.push_implicit_return(), |()| Reply::Done),
+        Call::AppendIteration(node, kind) => told(
+            builder.append_iteration(node, kind),
+            |()| Reply::Done,
+        ),
+        Call::AppendConditionTo(block, node) => told(
+            builder.append_condition_to(block, node),
+            |()| Reply::Done,
+        ),
+        Call::AppendUnreachable => told(builder.append_unreachable(), |()| Reply::Done),
+        Call::AppendThrow(node) => told(builder.append_throw(node), |()| Reply::Done),
+        Call::Append(kind, node, label) => told(builder.append(kind, node, label), Reply::Found),
+        Call::New(label, flags) => told(builder.new_ctx(label, flags), |()| Reply::Done),
+        Call::Default(label) => told(builder.default_ctx(label), |()| Reply::Done),
+        Call::NewFunction(label) => told(builder.new_function_ctx(label), |()| Reply::Done),
+        Call::File(kind, label) => told(builder.file(kind, label), Reply::Found),
+        Call::FileOnTop(kind) => told(builder.file_on_top(kind), Reply::Found),
+        Call::Mark(kind, label, jmp_pos) => told(builder.mark(kind, label, jmp_pos), Reply::Found),
+        Call::MarkOnTop(kind, jmp_pos) => told(builder.mark_on_top(kind, jmp_pos), Reply::Found),
+        Call::Allow(kind) => told(builder.allow(kind), Reply::Found),
+        Call::Resolve => told(builder.resolve(), Reply::Resolved),
+        Call::ResolveExpect(flags) => told(builder.resolve_expect(flags), Reply::Resolved),
+        Call::ResolveWithUpperLabel => told(builder.resolve_with_upper_label(), Reply::Resolved),
         Call::Tally => Reply::Tallied(builder.tally()),
     }
 }

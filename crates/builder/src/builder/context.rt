@@ -122,7 +122,7 @@ impl<'a> ControlFlowGraphBuilder<'a> {
     }
 
     // A break or a continue from the current block, by label.
-    fn file(&mut self, kind: EntryKind, label: Option<Label>) -> Result<bool, Refusal>
+    pub fn file(&mut self, kind: EntryKind, label: Option<Label>) -> Result<bool, Refusal>
         ensures { Follows (call.File kind label) (found_for kind label) (book_of self.old) (book_of self.new) result }
     {
         let block = self.blocks.current();
@@ -149,7 +149,7 @@ impl<'a> ControlFlowGraphBuilder<'a> {
     }
 
     // A break or a continue from the current block, in the topmost context.
-    fn file_on_top(&mut self, kind: EntryKind) -> Result<bool, Refusal>
+    pub fn file_on_top(&mut self, kind: EntryKind) -> Result<bool, Refusal>
         ensures { Follows (call.FileOnTop kind) yes (book_of self.old) (book_of self.new) result }
     {
         let block = self.blocks.current();
@@ -175,7 +175,7 @@ impl<'a> ControlFlowGraphBuilder<'a> {
     }
 
     // The instruction, an unreachable block after it, and the entry from the block before.
-    fn append(
+    pub fn append(
         &mut self,
         kind: EntryKind,
         node: NodeId,
@@ -187,13 +187,13 @@ impl<'a> ControlFlowGraphBuilder<'a> {
         self.blocks.check_block(block)?;
         self.check_label(label)?;
         self.blocks.check_terminator()?;
-        let found = self.contexts.find(kind, label);
-        self.check_entry(found)?;
+        let context = self.contexts.find(kind, label);
+        self.check_entry(context)?;
         let _ = self
             .blocks
             .append_terminator(instruction(kind, label), Some(node));
-        self.file_in(kind, block, found);
-        Ok(found.is_some())
+        self.file_in(kind, block, context);
+        Ok(context.is_some())
     }
 
     // Adds a break to the current block, goes on in an unreachable one, and files the block before by label. O(open contexts).
@@ -211,7 +211,7 @@ impl<'a> ControlFlowGraphBuilder<'a> {
     }
 
     // Marks a target in the context that the label finds.
-    fn mark(
+    pub fn mark(
         &mut self,
         kind: EntryKind,
         label: Option<Label>,
@@ -254,7 +254,7 @@ impl<'a> ControlFlowGraphBuilder<'a> {
     }
 
     // Marks a target in the topmost context.
-    fn mark_on_top(&mut self, kind: EntryKind, jmp_pos: BlockNodeId) -> Result<bool, Refusal>
+    pub fn mark_on_top(&mut self, kind: EntryKind, jmp_pos: BlockNodeId) -> Result<bool, Refusal>
         ensures { Follows (call.MarkOnTop kind jmp_pos) yes (book_of self.old) (book_of self.new) result }
     {
         self.blocks.check_block(jmp_pos)?;
@@ -281,7 +281,7 @@ impl<'a> ControlFlowGraphBuilder<'a> {
     }
 
     // Sets a flag of the topmost context.
-    fn allow(&mut self, kind: EntryKind) -> Result<bool, Refusal>
+    pub fn allow(&mut self, kind: EntryKind) -> Result<bool, Refusal>
         ensures { Follows (call.Allow kind) yes (book_of self.old) (book_of self.new) result }
     {
         let top = self.contexts.top().ok_or(Refusal::NoContext)?;
