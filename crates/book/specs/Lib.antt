@@ -1,3 +1,4 @@
 pub mod Book
 pub mod LawOfCounts
 pub mod Ledger
+pub mod Replies

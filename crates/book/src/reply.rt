@@ -1,6 +1,10 @@
 // The builder's replies, as values.
+ghost use Rattle.std.specs.Prelude.{Some};
+ghost use Rattle.book.specs.Replies.{reply_written, tally_written};
+
 use kinds::block::BlockNodeId;
 use kinds::refusal::Refusal;
+use std::fmt;
 
 // How many breaks and continues were given, and what became of them.
 #[derive(Clone, Copy)]
@@ -14,6 +18,24 @@ pub struct Tally {
     pub drawn: usize,
     // resolved while the target was unmarked
     pub untargeted: usize,
+}
+
+impl fmt::Display for Tally {
+    ghost output = { λ x. Some (tally_written x) };
+
+    fn fmt<W: fmt::Write>(&self, f: &mut fmt::Formatter<W>) -> fmt::Result {
+        let Tally {
+            given,
+            unfiled,
+            waiting,
+            drawn,
+            untargeted,
+        } = *self;
+        write!(
+            f,
+            "given {given} unfiled {unfiled} waiting {waiting} drawn {drawn} untargeted {untargeted}"
+        )
+    }
 }
 
 // The reply to a call.
@@ -31,4 +53,22 @@ pub enum Reply {
     Resolved(Option<(usize, usize)>),
     // the five counts
     Tallied(Tally),
+}
+
+impl fmt::Display for Reply {
+    ghost output = { λ x. Some (reply_written x) };
+
+    fn fmt<W: fmt::Write>(&self, f: &mut fmt::Formatter<W>) -> fmt::Result {
+        match *self {
+            Reply::Refused(refusal) => write!(f, "refused {refusal}"),
+            Reply::Done => write!(f, "ok"),
+            Reply::Block(block) => write!(f, "block {block}"),
+            Reply::Found(found) => f.write_str(if found { "found" } else { "none" }),
+            Reply::Resolved(Some((drawn, untargeted))) => {
+                write!(f, "drawn {drawn} untargeted {untargeted}")
+            }
+            Reply::Resolved(None) => write!(f, "none"),
+            Reply::Tallied(tally) => write!(f, "{tally}"),
+        }
+    }
 }

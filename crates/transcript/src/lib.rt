@@ -1,4 +1,0 @@
-// The text of answers, as a transcript has it.
-#![tactic(auto)]
-
-pub mod reply;
