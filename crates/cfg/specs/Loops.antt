@@ -1,15 +1,14 @@
 -- Which blocks start an infinite loop. Assumes nothing.
 --
 --   is_backedge k             whether an edge of the kind k is a Backedge
---   fits q k                  whether the kind k is the one that is sought
---   first_fit q es            the first of the edges es of the kind sought
---   after_fit q es            those after it
+--   first_fit sought es       the first of the edges es whose kind is sought
+--   after_fit sought es       those after it
 --   jump_target u g           the target of u's newest outgoing Jump, or else of its newest outgoing edge
 --   only is                   the instruction of a block that holds exactly one
 --   loop_start holds u g      the two ends of the loop that u starts, if it starts one; `holds` finds an instruction true
 --   loop_refusal u g          refused where u is no block, or a second Backedge comes in
 use Rattle.std.specs.Prelude.{ℕ, Bool, true, false, cond, not, ◌&&◌, List, [], ◌∷◌, length, is_some, Some, None, Option, nat_le}
-use Rattle.std.specs.Option.{option_map}
+use Rattle.std.specs.Option.{option_map, option_or}
 use Rattle.std.specs.List.{slice_get}
 use Rattle.kinds.specs.Replies.{row}
 use Rattle.kinds.specs.declared.block.Instruction.{Instruction}
@@ -22,8 +21,6 @@ use Rattle.store.specs.Edges.{listed}
 use Rattle.store.specs.declared.direction.Direction.TheVariants.{Outgoing, Incoming}
 use Rattle.blocks.specs.Blocks.{GraphState, instructions_in}
 use Rattle.book.specs.Ledger.{is_jump}
-use Rattle.cfg.specs.declared.loop_query.Sought.{Sought}
-use Rattle.cfg.specs.declared.loop_query.Sought.TheVariants.{Jump, Backedge}
 
 abbrev pub is_backedge : EdgeType → Bool
 is_backedge edge.Jump = false
@@ -35,17 +32,13 @@ is_backedge (edge.Error e) = false
 is_backedge edge.Unreachable = false
 is_backedge edge.Join = false
 
-abbrev pub fits : Sought → EdgeType → Bool
-fits Jump k = is_jump k
-fits Backedge k = is_backedge k
+abbrev pub first_fit : (EdgeType → Bool) → List Edge → Option Edge
+first_fit sought [] = None
+first_fit sought (e ∷ es) = cond (sought e.kind) (Some e) (first_fit sought es)
 
-abbrev pub first_fit : Sought → List Edge → Option Edge
-first_fit q [] = None
-first_fit q (e ∷ es) = cond (fits q e.kind) (Some e) (first_fit q es)
-
-abbrev pub after_fit : Sought → List Edge → List Edge
-after_fit q [] = []
-after_fit q (e ∷ es) = cond (fits q e.kind) es (after_fit q es)
+abbrev pub after_fit : (EdgeType → Bool) → List Edge → List Edge
+after_fit sought [] = []
+after_fit sought (e ∷ es) = cond (sought e.kind) es (after_fit sought es)
 
 -- the edges that leave u, and those that come into it, newest first
 abbrev pub leaving : ℕ → GraphState → List Edge
@@ -54,13 +47,8 @@ leaving u g = listed Outgoing u g.edges
 abbrev pub entering : ℕ → GraphState → List Edge
 entering u g = listed Incoming u g.edges
 
--- the first, if there is one, or else the second
-abbrev pub or_else : {X : Type 0} → Option X → Option X → Option X
-or_else None o = o
-or_else (Some x) o = Some x
-
 abbrev pub jump_target : ℕ → GraphState → Option ℕ
-jump_target u g = option_map (λ e. e.target) (or_else (first_fit Jump (leaving u g)) (slice_get (leaving u g) 0))
+jump_target u g = option_map (λ e. e.target) (option_or (first_fit is_jump (leaving u g)) (slice_get (leaving u g) 0))
 
 -- the first, where there is no second
 abbrev pub alone : Option Instruction → Option Instruction → Option Instruction
@@ -73,7 +61,7 @@ only is = alone (slice_get is 0) (slice_get is 1)
 
 -- the block u holds no instruction, and no Backedge leaves it
 abbrev pub bare : ℕ → GraphState → Bool
-bare u g = not (is_some (slice_get (instructions_in u g.instructions) 0)) && not (is_some (first_fit Backedge (leaving u g)))
+bare u g = not (is_some (slice_get (instructions_in u g.instructions) 0)) && not (is_some (first_fit is_backedge (leaving u g)))
 
 -- whether there is an instruction, and it is found true
 abbrev pub found_true : (Instruction → Bool) → Option Instruction → Bool
@@ -96,10 +84,10 @@ module _ (holds : Instruction → Bool) (u : ℕ) (g : GraphState) where
   by_backedge (Some e) = loop_from e.source
 
   abbrev pub loop_start : Option (ℕ × ℕ)
-  loop_start = by_backedge (first_fit Backedge (entering u g))
+  loop_start = by_backedge (first_fit is_backedge (entering u g))
 
 abbrev pub loop_refusal : ℕ → GraphState → Option Refusal
 loop_refusal u g =
     row (nat_le (length g.marks) u) NoBlock
-    (row (is_some (first_fit Backedge (after_fit Backedge (entering u g)))) TwoBackedges
+    (row (is_some (first_fit is_backedge (after_fit is_backedge (entering u g)))) TwoBackedges
     None)

@@ -1,9 +1,8 @@
 // Whether a block starts an infinite loop.
 ghost use Rattle.std.specs.Prelude.{◌≡◌, Bool};
-ghost use Rattle.std.specs.Option.{option_map};
 ghost use Rattle.kinds.specs.Replies.{told};
 ghost use Rattle.kinds.specs.declared.block.Instruction.{Instruction as AnInstruction};
-ghost use Rattle.cfg.specs.Loops.{fits, first_fit, after_fit, jump_target, only, bare, loop_from, loop_start, loop_refusal};
+ghost use Rattle.cfg.specs.Loops.{first_fit, after_fit, is_backedge, jump_target, only, bare, loop_from, loop_start, loop_refusal};
 ghost use Rattle.cfg.specs.Reads.{left};
 ghost use Rattle.cfg.specs.View.{graph_of};
 ghost use Rattle.blocks.specs.Blocks.{instructions_in};
@@ -24,35 +23,12 @@ pub trait EvalConstCondition {
         ensures { result ≡ holds self.now instruction };
 }
 
-// The kinds of edges that the query looks for.
-#[derive(Clone, Copy)]
-enum Sought {
-    Jump,
-    Backedge,
-}
-
-impl Sought {
-    fn fits(self, kind: EdgeType) -> bool
-        ensures { result ≡ fits self kind }
-    {
-        match self {
-            Sought::Jump => matches!(kind, EdgeType::Jump),
-            Sought::Backedge => matches!(kind, EdgeType::Backedge),
-        }
-    }
-}
-
-// The first edge of a kind among those left; those after it are left then.
-fn find(edges: &mut Edges, sought: Sought) -> Option<Edge>
-    ensures first { result ≡ first_fit sought (left edges.old) }
-    ensures after { left edges.new ≡ after_fit sought (left edges.old) }
+// The next Backedge among the edges left; those after it are left then.
+fn next_backedge(edges: &mut Edges) -> Option<Edge>
+    ensures first { result ≡ first_fit is_backedge (left edges.old) }
+    ensures after { left edges.new ≡ after_fit is_backedge (left edges.old) }
 {
-    while let Some(edge) = edges.next() {
-        if sought.fits(edge.kind) {
-            return Some(edge);
-        }
-    }
-    None
+    edges.find(|edge| edge.kind == EdgeType::Backedge)
 }
 
 impl ControlFlowGraph {
@@ -64,14 +40,12 @@ impl ControlFlowGraph {
     ) -> Result<Option<(BlockNodeId, BlockNodeId)>, Refusal>
         ensures { result ≡ told (loop_refusal node (graph_of self.now)) (loop_start (E.EvalConstCondition.holds evaluator.now) node (graph_of self.now)) }
     {
-        if node as usize >= self.block_count() {
-            return Err(Refusal::NoBlock);
-        }
+        self.check_block(node)?;
         let mut incoming = self.edges_at(node, Direction::Incoming);
-        let Some(backedge) = find(&mut incoming, Sought::Backedge) else {
+        let Some(backedge) = next_backedge(&mut incoming) else {
             return Ok(None);
         };
-        if find(&mut incoming, Sought::Backedge).is_some() {
+        if next_backedge(&mut incoming).is_some() {
             return Err(Refusal::TwoBackedges);
         }
         Ok(self.loop_from(node, backedge.source, evaluator))
@@ -87,20 +61,11 @@ impl ControlFlowGraph {
         ensures { result ≡ loop_from (E.EvalConstCondition.holds evaluator.now) node (graph_of self.now) source }
     {
         let target = self.jump_target(node);
-        if self.is_bare(node) {
-            return pair_before(target, node);
+        if self.is_bare(node) || evaluator.eval(self.only_instruction(node)?) {
+            return target.map(|target| (target, node));
         }
-        let Some(condition) = self.only_instruction(node) else {
-            return None;
-        };
-        if evaluator.eval(condition) {
-            return pair_before(target, node);
-        }
-        let Some(condition) = self.only_instruction(source) else {
-            return None;
-        };
-        if evaluator.eval(condition) {
-            return pair_after(node, target);
+        if evaluator.eval(self.only_instruction(source)?) {
+            return target.map(|target| (node, target));
         }
         None
     }
@@ -110,8 +75,7 @@ impl ControlFlowGraph {
         ensures { result ≡ bare node (graph_of self.now) }
     {
         let mut outgoing = self.edges_at(node, Direction::Outgoing);
-        self.blocks.instruction(node, 0).is_none()
-            && find(&mut outgoing, Sought::Backedge).is_none()
+        self.blocks.instruction(node, 0).is_none() && next_backedge(&mut outgoing).is_none()
     }
 
     // The instruction of a block that holds exactly one.
@@ -129,26 +93,10 @@ impl ControlFlowGraph {
     fn jump_target(&self, node: BlockNodeId) -> Option<BlockNodeId>
         ensures { result ≡ jump_target node (graph_of self.now) }
     {
-        let mut outgoing = self.edges_at(node, Direction::Outgoing);
-        let newest = outgoing.next();
-        let mut outgoing = self.edges_at(node, Direction::Outgoing);
-        match find(&mut outgoing, Sought::Jump) {
-            Some(jump) => Some(jump.target),
-            None => Some(newest?.target),
-        }
+        let newest = self.edges_at(node, Direction::Outgoing).next();
+        self.edges_at(node, Direction::Outgoing)
+            .find(|edge| edge.kind == EdgeType::Jump)
+            .or(newest)
+            .map(|edge| edge.target)
     }
-}
-
-// The pair of a target, if there is one, and a block.
-fn pair_before(target: Option<BlockNodeId>, node: BlockNodeId) -> Option<(BlockNodeId, BlockNodeId)>
-    ensures { result ≡ option_map (λ t. (t, node)) target }
-{
-    Some((target?, node))
-}
-
-// The pair of a block and a target, if there is one.
-fn pair_after(node: BlockNodeId, target: Option<BlockNodeId>) -> Option<(BlockNodeId, BlockNodeId)>
-    ensures { result ≡ option_map (λ t. (node, t)) target }
-{
-    Some((node, target?))
 }
