@@ -88,19 +88,20 @@ law_contexts k l cs e w h = record {
   jumps_once = h.jumps_once;
 }
 
+-- no entries past the open contexts
+entries_past : (cs : List Context) (i : ℕ) → length cs ≤ i → entries_at i cs ≡ []
+entries_past [] i p = refl
+entries_past (x ∷ cs) i p = (let q : i ≡ length cs → ⊥ = λ z. omega arith in rw (ne_eqb i (length cs) q) (entries_past cs i (omega arith)))
+
 law_opened : (k : Book) (l : Ledger) (c : Context) → c.entries ≡ [] → Law k l → Law (with_contexts (c ∷ k.contexts) k) l
 law_opened k l c e h = law_contexts k l (c ∷ k.contexts) same (ap (λ x. length x + waiting_count k.contexts) e ∙ zero_more (waiting_count k.contexts)) h
   where
     zero_more : (n : ℕ) → 0 + n ≡ n
     zero_more n = omega arith
 
-    past : (cs : List Context) (i : ℕ) → length cs ≤ i → entries_at i cs ≡ []
-    past [] i p = refl
-    past (x ∷ cs) i p = (let q : i ≡ length cs → ⊥ = λ z. omega arith in rw (ne_eqb i (length cs) q) (past cs i (omega arith)))
-
     same : (i : ℕ) → entries_at i (c ∷ k.contexts) ≡ entries_at i k.contexts
     same i = elim (cases_eq i (length k.contexts)) [
-      | inl p ↦ rw (eq-eqb i (length k.contexts) p) (e ∙ sym (past k.contexts i (omega arith)))
+      | inl p ↦ rw (eq-eqb i (length k.contexts) p) (e ∙ sym (entries_past k.contexts i (omega arith)))
       | inr p ↦ rw (ne_eqb i (length k.contexts) p)
     ]
 
@@ -181,10 +182,6 @@ law_edge_taken a b e k l h = by (is_jump e) refl
     by false j = law_blocks k l (state.linked a b e k.blocks) (no_jumps_push k.blocks.graph.edges (record { source = a; target = b; kind = e }) j) h
 
 -- resolve
-entries_past : (cs : List Context) (i : ℕ) → length cs ≤ i → entries_at i cs ≡ []
-entries_past [] i p = refl
-entries_past (x ∷ cs) i p = (let q : i ≡ length cs → ⊥ = λ z. omega arith in rw (ne_eqb i (length cs) q) (entries_past cs i (omega arith)))
-
 law_resolved : (cs : List Context) (k : Book) (l : Ledger) → k.contexts ≡ cs → Law k l
     → Law (resolved_by (resolve_counts cs) (with_contexts cs k)) (top_resolved cs (length k.blocks.graph.edges) l)
 law_resolved [] k l e h = law_contexts k l [] (λ i. ap (entries_at i) (sym e)) (ap waiting_count (sym e)) h

@@ -11,6 +11,7 @@
 --   step k c          the book after any call; answer k c: its reply; run cs k: the book after a list of calls
 --   Follows c x k t r the call c on the book k, which leaves t and replies r, does what the book says; x is its reply where it is accepted
 use Rattle.std.specs.Prelude.{◌≡◌, ℕ, ◌+◌, Bool, true, false, not, ◌&&◌, ◌||◌, List, [], ◌∷◌, length, is_some, Some, None, Option, Result, nat_lt}
+use Rattle.std.specs.Option.{option_or}
 use Rattle.block_builder.specs.BlockState as state
 use Rattle.block_builder.specs.BlockState.{BlockState, no_block, block_count, count_of}
 use Rattle.book.specs.declared.call.Call.{Call}
@@ -74,10 +75,6 @@ contexts_full k = row (nat_lt 64 (length k.contexts + 1)) (Full Contexts) None
 abbrev pub entries_full : ℕ → Book → Option Refusal
 entries_full n k = row (nat_lt 512 (waiting_count k.contexts + n)) (Full Entries) (row (nat_lt 65535 (k.given + 1)) (Full Given) None)
 
-abbrev pub or_else : Option Refusal → Option Refusal → Option Refusal
-or_else None rest = rest
-or_else (Some r) rest = Some r
-
 abbrev pub bad_label : Option Label → Book → Bool
 bad_label l k = not (label_fits k.text l)
 
@@ -130,7 +127,7 @@ abbrev pub append_refusal : EntryKind → Option Label → Book → Option Refus
 append_refusal j l k =
     row (no_block k.blocks.current k.blocks) NoBlock
     (row (bad_label l k) BadLabel
-    (or_else (state.append_full 2 k.blocks) (entries_full (count_of (context_for j l k)) k)))
+    (option_or (state.append_full 2 k.blocks) (entries_full (count_of (context_for j l k)) k)))
 
 abbrev pub jump_appended : EntryKind → ℕ → Option Label → Book → Book
 jump_appended j n l k =
