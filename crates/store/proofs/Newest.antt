@@ -7,14 +7,7 @@ use Rattle.std.proofs.lemmas.Bool.{cases_eq}
 use Rattle.std.proofs.lemmas.Bool.Decides.{nat_tests}
 use Rattle.kinds.specs.declared.edge.Edge.{Edge}
 use Rattle.store.specs.Edges.{block_at, listed, newest, newest_from, has_edge, nonempty, rest, beside, HeadOf}
-use Rattle.store.specs.Links.{code}
 use Rattle.store.specs.declared.direction.Direction.{Direction}
-
-pub code_same : (o p : Option ℕ) → code o ≡ code p → o ≡ p
-code_same None None e = refl
-code_same None (Some k) e = absurd (omega arith)
-code_same (Some j) None e = absurd (omega arith)
-code_same (Some j) (Some k) e = let z : j ≡ k = omega arith in ap Some z
 
 newest_from_push : (d : Direction) (b i : ℕ) (o : Option ℕ) (es : List Edge) (e : Edge)
     → newest_from d b i o (es ++ e ∷ []) ≡ cond (eqb (block_at d e) b) (Some (i + length es)) (newest_from d b i o es)

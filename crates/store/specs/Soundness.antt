@@ -4,7 +4,7 @@
 --   store_within   every place stands for blocks only
 use Rattle.std.specs.Prelude.{◌≡◌, ℕ, suc, ◌<◌, ◌≤◌, true, cond, List, [], ◌∷◌, reverse, length, take, Some, None, vec_items, filter, Option, ◌==◌, nat_eq, refl}
 use Rattle.std.proofs.Common.{inl, inr, ⊎_elim, sym, ap, subst, ◌∙◌, arith}
-use Rattle.std.specs.List.{AllByRecursion, slice_get}
+use Rattle.std.specs.List.{AllByRecursion, slice_get, list_any}
 use Rattle.std.proofs.lemmas.List.{reverse-append}
 use Rattle.std.proofs.ByRecursion.{all_kept_by, All-push, All-take}
 use Rattle.std.proofs.lemmas.Bool.{and_parts, or_cases, eqb-true, false≢true, ne_eqb}
@@ -12,7 +12,7 @@ use Rattle.graph.specs.Meaning.{Member, Sound}
 use Rattle.kinds.specs.declared.edge.Edge.{Edge}
 use Rattle.store.specs.Edges.{block_at, listed, beside, rest}
 use Rattle.store.specs.Links.{edges_in, Within}
-use Rattle.store.specs.Paths.{passable, any, leads, targets, meaning_of}
+use Rattle.store.specs.Paths.{passable, leads, targets, meaning_of}
 use Rattle.store.specs.View.{nodes_of, edges_of}
 use Rattle.store.specs.declared.direction.Direction.{Direction}
 use Rattle.store.specs.declared.direction.Direction.TheVariants.{Outgoing, Incoming}
@@ -46,27 +46,27 @@ kept_none d n b (e ∷ es) le h =
     ap (λ t. cond t (e ∷ filter (λ x. nat_eq (block_at d x) b) es) (filter (λ x. nat_eq (block_at d x) b) es)) (ne_eqb (block_at d e) b (λ q. omega arith))
     ∙ kept_none d n b es le h.1
 
-any_target : (b : ℕ) (es : List Edge) → any (leads b) es ≡ true → Member b (targets es)
+any_target : (b : ℕ) (es : List Edge) → list_any (leads b) es ≡ true → Member b (targets es)
 any_target b [] h = absurd (false≢true h)
 any_target b (e ∷ es) h =
     ⊎_elim (λ l. inl (sym (eqb-true e.target b (and_parts (e.target == b) (passable e.kind) l).0)))
-    (λ r. inr (any_target b es r)) (or_cases (leads b e) (any (leads b) es) h)
+    (λ r. inr (any_target b es r)) (or_cases (leads b e) (list_any (leads b) es) h)
 
 module _ (s : EdgeStore) where
-  at_nodes : (d : Direction) → Within d (vec_items s.nodes) (vec_items s.links) → AllByRecursion (λ e. block_at d e < nodes_of s) (edges_of s)
-  at_nodes d w = edges_within d (nodes_of s) (vec_items s.nodes) (vec_items s.links) (sym s.nodes.ok.0) w
+  at_nodes : (d : Direction) → AllByRecursion (λ e. block_at d e < nodes_of s) (edges_of s)
+  at_nodes d = edges_within d (nodes_of s) (vec_items s.nodes) (vec_items s.links) (sym s.nodes.ok.0) (s.within d)
 
   pub store_sound : Sound (meaning_of s)
   store_sound = record {
     few = s.few_nodes;
-    below = λ u v m. target_below (nodes_of s) v (listed Outgoing u (edges_of s)) (listed_within (λ e. e.target < nodes_of s) Outgoing u (edges_of s) (at_nodes Incoming s.targets)) m;
-    outside = λ u le. ap (λ l. targets (reverse l)) (kept_none Outgoing (nodes_of s) u (edges_of s) le (at_nodes Outgoing s.sources));
+    below = λ u v m. target_below (nodes_of s) v (listed Outgoing u (edges_of s)) (listed_within (λ e. e.target < nodes_of s) Outgoing u (edges_of s) (at_nodes Incoming)) m;
+    outside = λ u le. ap (λ l. targets (reverse l)) (kept_none Outgoing (nodes_of s) u (edges_of s) le (at_nodes Outgoing));
     listed = λ u v h. any_target v (listed Outgoing u (edges_of s)) h;
   }
 
   rest_within : (p : Option ℕ) → AllByRecursion (λ e. e.target < nodes_of s) (rest Outgoing (edges_of s) p)
   rest_within None = tt
-  rest_within (Some k) = beside_within (slice_get (edges_of s) k) (take (suc k) (edges_of s)) (All-take (λ e. e.target < nodes_of s) (suc k) (edges_of s) (at_nodes Incoming s.targets))
+  rest_within (Some k) = beside_within (slice_get (edges_of s) k) (take (suc k) (edges_of s)) (All-take (λ e. e.target < nodes_of s) (suc k) (edges_of s) (at_nodes Incoming))
     where
       beside_within : (o : Option Edge) (es : List Edge) → AllByRecursion (λ e. e.target < nodes_of s) es → AllByRecursion (λ e. e.target < nodes_of s) (beside Outgoing o es)
       beside_within None es h = tt

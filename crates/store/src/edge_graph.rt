@@ -39,23 +39,15 @@ impl Graph for EdgeStore {
     }
 
     fn next(&self, place: Option<usize>) -> Option<Step<Option<usize>>> {
-        match self.next_edge(place, Direction::Outgoing) {
-            Some(step) => Some(Step {
-                block: step.edge.target,
-                next: step.next,
-            }),
-            None => None,
-        }
+        let step = self.next_edge(place, Direction::Outgoing)?;
+        Some(Step {
+            block: step.edge.target,
+            next: step.next,
+        })
     }
 
     fn permitted(&self, from: u32, to: u32) -> bool {
-        let mut place = self.first_edge(from, Direction::Outgoing);
-        while let Some(step) = self.next_edge(place, Direction::Outgoing) {
-            if step.edge.target == to && is_passable(step.edge.kind) {
-                return true;
-            }
-            place = step.next;
-        }
-        false
+        self.edges(from, Direction::Outgoing)
+            .any(|edge| edge.target == to && is_passable(edge.kind))
     }
 }

@@ -1,6 +1,6 @@
 use Rattle.std.proofs.Common.{◌≡◌, length}
 use Rattle.cfg.specs.Loops.{first_fit, after_fit}
-use Rattle.cfg.specs.Reads.{left}
+use Rattle.store.specs.View.{left}
 use Rattle.cfg.proofs.loop_query.find.Given as goal
 
 -- no edge passed is of the kind sought
