@@ -1,4 +1,3 @@
 pub mod Highest
 pub mod Marks
 pub mod Rule
-pub mod Seeking
