@@ -1,3 +1,2 @@
 pub mod Highest
 pub mod Marks
-pub mod Rule

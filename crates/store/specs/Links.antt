@@ -7,6 +7,7 @@
 --   Nexts d ls       each edge keeps the number of the newest of those made before it at the same block
 --   Within d ns ls   every edge is at a node
 use Rattle.std.specs.Prelude.{◌≡◌, ℕ, suc, ◌<◌, List, map, length, get_or, take, Some, None, Option, slice_index_or}
+use Rattle.std.specs.List.{All}
 use Rattle.kinds.specs.declared.edge.Edge.{Edge}
 use Rattle.store.specs.Edges.{block_at, newest}
 use Rattle.store.specs.declared.direction.Direction.{Direction}
@@ -34,4 +35,4 @@ Nexts d ls =
     (k : ℕ) (x : Link) → k < length ls → toward d (get_or ls k x).next ≡ newest d (block_at d (get_or ls k x).edge) (take k (edges_in ls))
 
 abbrev pub Within : Direction → List Node → List Link → Type 0
-Within d ns ls = (k : ℕ) (x : Link) → k < length ls → block_at d (get_or ls k x).edge < length ns
+Within d ns ls = All (λ l. block_at d l.edge < length ns) ls

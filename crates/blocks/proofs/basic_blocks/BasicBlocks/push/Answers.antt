@@ -1,7 +1,7 @@
 use Rattle.std.proofs.Common.{List, sym, refl, subst}
 use Rattle.blocks.specs.Tables.{Flagged, Inside}
 use Rattle.blocks.specs.declared.basic_block.BasicBlock.{BasicBlock}
-use Rattle.blocks.proofs.Marks.{flagged_block, inside_block}
+use Rattle.blocks.proofs.Marks.{flagged_block}
 use Rattle.blocks.proofs.basic_blocks.BasicBlocks.push.Goals as goal
 
 pub invariant_of-self-clause-flagged : goal.invariant_of-self-clause-flagged
