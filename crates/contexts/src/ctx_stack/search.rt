@@ -1,6 +1,5 @@
 // The search for the context of a break or a continue.
 ghost use Rattle.std.specs.Prelude.{◌≡◌, ◌+◌, ◌<◌, ◌≤◌, true, reverse, length, MatchOption};
-ghost use Rattle.std.specs.Str.{bytes_eq};
 ghost use Rattle.contexts.specs.Contexts.{label_bytes, label_fits, label_matches, found};
 ghost use Rattle.contexts.specs.Tables.{found_in};
 ghost use Rattle.contexts.specs.View.{contexts_of};
@@ -19,18 +18,12 @@ impl<'a> CtxStack<'a> {
         }
     }
 
-    // Whether two labels have the same bytes. O(length of the labels).
-    fn same_bytes(&self, l: Label, m: Label) -> bool
-        requires left { l.offset + l.length ≤ length self.now.text.now }
-        requires right { m.offset + m.length ≤ length self.now.text.now }
-        ensures { result ≡ bytes_eq (label_bytes self.now.text.now l) (label_bytes self.now.text.now m) }
+    // The bytes of a label. O(1).
+    fn bytes(&self, label: Label) -> &[u8]
+        requires { label.offset + label.length ≤ length self.now.text.now }
+        ensures { result.now ≡ label_bytes self.now.text.now label }
     {
-        let text = self.text;
-        let (i, j) = (l.offset, l.offset + l.length);
-        let (p, q) = (m.offset, m.offset + m.length);
-        let a = &text[i..j];
-        let b = &text[p..q];
-        a == b
+        &self.text[label.offset..label.offset + label.length]
     }
 
     // Whether a context's own label is the one sought, where one is sought.
@@ -42,7 +35,7 @@ impl<'a> CtxStack<'a> {
         match (label, own) {
             (None, _) => true,
             (Some(_), None) => false,
-            (Some(l), Some(m)) => self.same_bytes(l, m),
+            (Some(l), Some(m)) => self.bytes(l) == self.bytes(m),
         }
     }
 
@@ -52,10 +45,7 @@ impl<'a> CtxStack<'a> {
         ensures value { result ≡ found_in self.now.text.now kind label (reverse self.now.stack.items) }
         ensures within { MatchOption result (⊥ → ⊥) (λ i. i < length self.now.stack.items) }
     {
-        let mut i = self.stack.len();
-        while i > 0 {
-            i -= 1;
-            let ctx = self.stack[i];
+        for (i, ctx) in self.stack.iter().enumerate().rev() {
             if ctx.flags.function {
                 return None;
             }
