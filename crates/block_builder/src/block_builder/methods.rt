@@ -127,7 +127,7 @@ impl BlockBuilder {
         if block as usize >= self.graph.block_count() {
             return Err(Refusal::NoBlock);
         }
-        self.graph.mark_as_reachable(block);
+        self.graph.set_unreachable(block, false);
         Ok(())
     }
 
@@ -138,7 +138,7 @@ impl BlockBuilder {
         if block as usize >= self.graph.block_count() {
             return Err(Refusal::NoBlock);
         }
-        self.graph.mark_as_unreachable(block);
+        self.graph.set_unreachable(block, true);
         Ok(())
     }
 
