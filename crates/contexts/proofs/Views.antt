@@ -5,8 +5,8 @@ use Rattle.std.proofs.lemmas.List.{append-nil, drop-set-lt, get_or-set_same, len
 use Rattle.std.proofs.lemmas.List.Elements.{filter-append}
 use Rattle.std.proofs.lemmas.Bool.{cases_eq, eq-eqb, ne_eqb}
 use Rattle.blocks.specs.Highest.{highest}
-use Rattle.contexts.specs.Contexts.{Entry, Context, found, has_flag, label_matches, target_of, target_at, with_target, with_entry, changed_at}
-use Rattle.contexts.specs.Tables.{waits_in, entry_of, entries_of, context_of, contexts_in, found_in, jump_of, with_jump, above_context, IsTop}
+use Rattle.contexts.specs.Contexts.{Entry, Context, target_of, target_at, with_target, with_entry, changed_at}
+use Rattle.contexts.specs.Tables.{waits_in, entry_of, entries_of, context_of, contexts_in, jump_of, with_jump, above_context, IsTop}
 use Rattle.contexts.specs.View.{contexts_of}
 use Rattle.contexts.specs.declared.ctx.Ctx.{Ctx}
 use Rattle.contexts.specs.declared.ctx.WaitingEntry.{WaitingEntry}
@@ -18,16 +18,6 @@ use Rattle.kinds.specs.declared.context.Label.{Label}
 pub contexts_length : (cs : List Ctx) (ws : List WaitingEntry) → length (contexts_in cs ws) ≡ length cs
 contexts_length [] ws = refl
 contexts_length (c ∷ cs) ws = ap suc (contexts_length cs ws)
-
--- the search
-pub found_contexts : (text : List ℕ) (k : EntryKind) (l : Option Label) (cs : List Ctx) (ws : List WaitingEntry)
-    → found text k l (contexts_in cs ws) ≡ found_in text k l cs
-found_contexts text k l [] ws = refl
-found_contexts text k l (c ∷ cs) ws =
-    ap (λ n. cond c.flags.function None (cond (has_flag k c.flags && label_matches text l c.label) (Some n) (found text k l (contexts_in cs ws))))
-    (contexts_length cs ws)
-    ∙ ap (λ o. cond c.flags.function None (cond (has_flag k c.flags && label_matches text l c.label) (Some (length cs)) o))
-    (found_contexts text k l cs ws)
 
 pub target_fits : (k : EntryKind) (t : ℕ) (c : Ctx) (es : List Entry) → context_of (with_jump k t c) es ≡ with_target k t (context_of c es)
 target_fits Break t c es = refl

@@ -3,7 +3,7 @@
 --   waits_in i w          the entry w waits in the context of the number i
 --   entries_of i ws       the entries of that context, in the order filed
 --   contexts_in cs ws     the contexts that the tables stand for, from a stack turned so that the topmost is first
---   found_in, jump_of ..  the search, a target and the changes of Contexts, over a row of the stack
+--   jump_of ..            a target and the changes of Contexts, over a row of the stack
 --   draws i c w           whether the entry w waits in the context c of the number i and has a target; lacks: whether it has none
 --   all_drawn i c ws g    g with the Jump edges of those of ws that wait in the context c of the number i
 --   TopIs cs ws t         t is the topmost context with its number, none with an empty stack
@@ -36,12 +36,6 @@ context_of c es =
 abbrev pub contexts_in : List Ctx → List WaitingEntry → List Context
 contexts_in [] ws = []
 contexts_in (c ∷ cs) ws = context_of c (entries_of (length cs) ws) ∷ contexts_in cs ws
-
-abbrev pub found_in : List ℕ → EntryKind → Option Label → List Ctx → Option ℕ
-found_in text k l [] = None
-found_in text k l (c ∷ cs) =
-    cond c.flags.function None
-    (cond (has_flag k c.flags && label_matches text l c.label) (Some (length cs)) (found_in text k l cs))
 
 abbrev pub jump_of : EntryKind → Ctx → Option ℕ
 jump_of Break c = c.break_jmp

@@ -64,7 +64,7 @@ impl<'a> CtxStack<'a> {
         ensures waiting { MatchOption result (⊥ → ⊥) (λ p. p.0 + p.1 + waiting_count (below_top (contexts_of self.now)) ≡ waiting_count (contexts_of self.now)) }
     {
         let top = self.last()?;
-        Some(entries::counts(&self.waiting, top.number, top.ctx))
+        Some(entries::counts(&self.waiting, top))
     }
 
     // Closes the topmost context, if one is open, and draws the Jump edges of its entries in their order. O(waiting entries).
@@ -81,7 +81,7 @@ impl<'a> CtxStack<'a> {
         let Some(top) = self.last() else {
             return;
         };
-        entries::draw(graph, &self.waiting, top.number, top.ctx);
+        entries::draw(graph, &self.waiting, top);
         entries::release(&mut self.waiting, top.number);
         let _ = self.stack.pop();
     }

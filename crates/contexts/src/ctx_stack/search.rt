@@ -1,7 +1,6 @@
 // The search for the context of a break or a continue.
-ghost use Rattle.std.specs.Prelude.{◌≡◌, ◌+◌, ◌<◌, ◌≤◌, true, reverse, length, MatchOption};
+ghost use Rattle.std.specs.Prelude.{◌≡◌, ◌+◌, ◌<◌, ◌≤◌, true, length, MatchOption};
 ghost use Rattle.contexts.specs.Contexts.{label_bytes, label_fits, label_matches, found};
-ghost use Rattle.contexts.specs.Tables.{found_in};
 ghost use Rattle.contexts.specs.View.{contexts_of};
 
 use super::CtxStack;
@@ -12,10 +11,9 @@ impl<'a> CtxStack<'a> {
     pub fn label_fits(&self, label: Option<Label>) -> bool
         ensures { result ≡ label_fits self.now.text.now label }
     {
-        match label {
-            None => true,
-            Some(l) => l.offset <= self.text.len() && l.length <= self.text.len() - l.offset,
-        }
+        label.is_none_or(|l| {
+            l.offset <= self.text.len() && l.length <= self.text.len() - l.offset
+        })
     }
 
     // The bytes of a label. O(1).
@@ -39,11 +37,11 @@ impl<'a> CtxStack<'a> {
         }
     }
 
-    // The number of the first context down the stack that has the kind's flag and the label, none from the first function on.
-    fn in_context(&self, kind: EntryKind, label: Option<Label>) -> Option<usize>
+    // The number of the context that takes an entry of this kind by this label, if there is one. O(open contexts + their labels' bytes).
+    pub fn find(&self, kind: EntryKind, label: Option<Label>) -> Option<usize>
         requires { label_fits self.now.text.now label ≡ true }
-        ensures value { result ≡ found_in self.now.text.now kind label (reverse self.now.stack.items) }
-        ensures within { MatchOption result (⊥ → ⊥) (λ i. i < length self.now.stack.items) }
+        ensures value { result ≡ found self.now.text.now kind label (contexts_of self.now) }
+        ensures within { MatchOption result (⊥ → ⊥) (λ i. i < length (contexts_of self.now)) }
     {
         for (i, ctx) in self.stack.iter().enumerate().rev() {
             if ctx.flags.function {
@@ -54,14 +52,5 @@ impl<'a> CtxStack<'a> {
             }
         }
         None
-    }
-
-    // The number of the context that takes an entry of this kind by this label, if there is one. O(open contexts + their labels' bytes).
-    pub fn find(&self, kind: EntryKind, label: Option<Label>) -> Option<usize>
-        requires { label_fits self.now.text.now label ≡ true }
-        ensures value { result ≡ found self.now.text.now kind label (contexts_of self.now) }
-        ensures within { MatchOption result (⊥ → ⊥) (λ i. i < length (contexts_of self.now)) }
-    {
-        self.in_context(kind, label)
     }
 }

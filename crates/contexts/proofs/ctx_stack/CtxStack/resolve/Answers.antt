@@ -30,18 +30,21 @@ draw-requires c =
     let p = c.requires in
     record { blocks = omega arith; breaks = omega arith; continues = omega arith; room = omega arith }
 
-pub invariant_of-self : goal.invariant_of-self
-invariant_of-self c =
+pub invariant_of-self-clause-labels_fit : goal.invariant_of-self-clause-labels_fit
+invariant_of-self-clause-labels_fit c =
     let s = c.args.self.now in
-    let xs = s.stack.items in
+    let L : List Ctx → Type 0 = λ y. LabelsFit s.text.now y in
+    subst L (sym c.pop.ensures.rest) (All-take (λ (y : Ctx). label_fits s.text.now y.label ≡ true) (s.stack.len - 1) s.stack.items s.labels_fit)
+
+pub invariant_of-self-clause-contexts_known : goal.invariant_of-self-clause-contexts_known
+invariant_of-self-clause-contexts_known c =
+    let s = c.args.self.now in
     let ws = s.waiting.items in
     let i = c.in-Some.top.number in
-    let t = c.in-Some.ensures in
-    let L : List Ctx → Type 0 = λ y. LabelsFit s.text.now y in
-    let popped = c.pop.ensures.rest in
-    let lim : highest above_context ws ≤ suc i = omega (arith, s.contexts_known, t.number) in
+    let t = c.in-Some.ensures.number in
     let kept = ap (highest above_context) c.release.ensures.items in
-    let known = numbers_kept i ws lim in record { stack_fits = search rules; waiting_fits = search rules; labels_fit = subst L (sym popped) (All-take (λ (y : Ctx). label_fits s.text.now y.label ≡ true) (s.stack.len - 1) xs s.labels_fit); contexts_known = omega (arith, kept, known, ap length popped, length-take (s.stack.len - 1) xs, s.stack.ok.0, t.number) }
+    let known = numbers_kept i ws (omega arith) in
+    omega (arith, ap length c.pop.ensures.rest, length-take (s.stack.len - 1) s.stack.items)
 
 pub returns : goal.returns
 returns c =

@@ -22,8 +22,8 @@ draw_one-requires c =
     let i = c.loop-entry.entry-index in
     let lt : i < length ws = omega arith in
     let b = highest_at above_block ws i D lt in
-    let x = sum_by_more (drawn c.args.context c.args.ctx) ws i D lt in
-    let y = sum_by-take-le (drawn c.args.context c.args.ctx) ws (i + 1) in
+    let x = sum_by_more (drawn c.args.top.number c.args.top.ctx) ws i D lt in
+    let y = sum_by-take-le (drawn c.args.top.number c.args.top.ctx) ws (i + 1) in
     let h = c.loop-entry.invariant.1 in
     record {
       block = omega (arith, h.marks, c.requires.blocks);
@@ -37,11 +37,11 @@ loop-entry-preserved c =
     let ws = c.args.waiting.now in
     let i = c.loop-entry.entry-index in
     let lt : i < length ws = omega arith in
-    let x = sum_by_more (drawn c.args.context c.args.ctx) ws i D lt in
+    let x = sum_by_more (drawn c.args.top.number c.args.top.ctx) ws i D lt in
     let h = c.loop-entry.invariant.1 in
     let s = c.draw_one.ensures.sizes in (
-      c.draw_one.ensures.graph ∙ ap (one_drawn c.args.context c.args.ctx (get_or ws i D)) c.loop-entry.invariant.0
-          ∙ sym (drawn_more c.args.context c.args.ctx ws i D (graph_of c.args.graph.now) lt),
+      c.draw_one.ensures.graph ∙ ap (one_drawn c.args.top.number c.args.top.ctx (get_or ws i D)) c.loop-entry.invariant.0
+          ∙ sym (drawn_more c.args.top.number c.args.top.ctx ws i D (graph_of c.args.graph.now) lt),
       record {
         marks = omega (arith, h.marks, s.marks);
         edges = omega (arith, x, h.edges, s.edges);
@@ -55,8 +55,8 @@ returns c =
     let le : length ws ≤ c.loop-entry.entry-index = omega arith in
     let e = take_all c.loop-entry.entry-index ws le in
     let h = c.loop-entry.invariant.1 in
-    let n = ap (count_by (draws c.args.context c.args.ctx)) e in
+    let n = ap (count_by (draws c.args.top.number c.args.top.ctx)) e in
     record {
       sizes = record { marks = omega (arith, h.marks); edges = omega (arith, n, h.edges); instructions = omega (arith, h.instructions) };
-      graph = c.loop-entry.invariant.0 ∙ ap (λ x. all_drawn c.args.context c.args.ctx x (graph_of c.args.graph.now)) e;
+      graph = c.loop-entry.invariant.0 ∙ ap (λ x. all_drawn c.args.top.number c.args.top.ctx x (graph_of c.args.graph.now)) e;
     }
