@@ -12,7 +12,7 @@ use Rattle.blocks.specs.declared.basic_block.BlockInstruction.{BlockInstruction}
 holds_none : (bs : List BasicBlock) (is : List BlockInstruction) (b : ℕ) → Inside bs is → length bs ≤ b → holds_unreachable b is ≡ false
 holds_none bs is b within le =
     list_any_none _ is (λ k x lt. let w = within k x lt in
-      ap (λ t. t && is_unreachable (get_or is k x).instruction.kind) (ne_eqb (get_or is k x).block b (λ e. omega arith)))
+    ap (λ t. t && is_unreachable (get_or is k x).instruction.kind) (ne_eqb (get_or is k x).block b (λ e. omega arith)))
 
 -- one block more
 pub flagged_block : (bs : List BasicBlock) (is : List BlockInstruction) (b : BasicBlock) → b.holds_unreachable ≡ false → Inside bs is → Flagged bs is

@@ -1,8 +1,8 @@
 -- The search down the stack.
 use Rattle.std.proofs.Common.{◌≡◌, ℕ, ◌≤◌, Bool, false, cond, ◌&&◌, List, [], ◌∷◌, ◌++◌, reverse, length, Some, None, Option, get_or, ap, ◌∙◌, arith}
 use Rattle.std.proofs.lemmas.List.{get_or_append_left, length_push, reverse-append}
-use Rattle.contexts.specs.Contexts.{Context, found, has_flag, label_matches}
-use Rattle.contexts.specs.Tables.{LabelsFit, context_of, contexts_in, entries_of}
+use Rattle.contexts.specs.Contexts.{found, has_flag, label_matches}
+use Rattle.contexts.specs.Tables.{LabelsFit, contexts_in}
 use Rattle.contexts.specs.declared.ctx.Ctx.{Ctx}
 use Rattle.contexts.specs.declared.ctx.WaitingEntry.{WaitingEntry}
 use Rattle.kinds.specs.declared.context.EntryKind.{EntryKind}

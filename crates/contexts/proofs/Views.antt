@@ -1,5 +1,5 @@
 -- What the tables stand for after each change.
-use Rattle.std.proofs.Common.{◌≡◌, ℕ, suc, ◌+◌, ◌-◌, ◌<◌, ◌≤◌, min, cond, not, ◌&&◌, List, [], ◌∷◌, ◌++◌, map, reverse, length, get_or, take, drop, set, Some, None, vec_items, vec_len, filter, Option, sym, refl, ap, ◌∙◌, append_assoc, inl, inr, arith}
+use Rattle.std.proofs.Common.{◌≡◌, ℕ, suc, ◌+◌, ◌-◌, ◌<◌, ◌≤◌, min, cond, not, List, [], ◌∷◌, ◌++◌, map, reverse, length, get_or, take, drop, set, vec_items, vec_len, filter, sym, refl, ap, ◌∙◌, append_assoc, inl, inr, arith}
 use Rattle.std.proofs.Math.Seq.{split_at}
 use Rattle.std.proofs.lemmas.List.{append-nil, drop-set-lt, get_or-set_same, length-append, length-set, length-take, length-take-le, map-append, reverse-append, length-reverse, take-set, take_more, take_all}
 use Rattle.std.proofs.lemmas.List.Elements.{filter-append}
@@ -13,7 +13,6 @@ use Rattle.contexts.specs.declared.ctx.WaitingEntry.{WaitingEntry}
 use Rattle.contexts.specs.declared.ctx_stack.CtxStack.{CtxStack}
 use Rattle.kinds.specs.declared.context.EntryKind.{EntryKind}
 use Rattle.kinds.specs.declared.context.EntryKind.TheVariants.{Break, Continue}
-use Rattle.kinds.specs.declared.context.Label.{Label}
 
 pub contexts_length : (cs : List Ctx) (ws : List WaitingEntry) → length (contexts_in cs ws) ≡ length cs
 contexts_length [] ws = refl

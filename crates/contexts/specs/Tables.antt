@@ -12,13 +12,12 @@
 use Rattle.std.specs.Prelude.{◌≡◌, ℕ, suc, Bool, true, cond, not, ◌&&◌, List, [], ◌∷◌, map, reverse, length, take, is_some, Some, None, filter, Option, ◌==◌}
 use Rattle.std.specs.List.{All}
 use Rattle.blocks.specs.Blocks.{GraphState}
-use Rattle.contexts.specs.Contexts.{Entry, Context, label_fits, label_matches, has_flag, flag_set, jump_added}
+use Rattle.contexts.specs.Contexts.{Entry, Context, label_fits, flag_set, jump_added}
 use Rattle.contexts.specs.declared.ctx.Ctx.{Ctx}
 use Rattle.contexts.specs.declared.ctx.WaitingEntry.{WaitingEntry}
 use Rattle.contexts.specs.declared.ctx.Top.{Top}
 use Rattle.kinds.specs.declared.context.EntryKind.{EntryKind}
 use Rattle.kinds.specs.declared.context.EntryKind.TheVariants.{Break, Continue}
-use Rattle.kinds.specs.declared.context.Label.{Label}
 
 abbrev pub waits_in : ℕ → WaitingEntry → Bool
 waits_in i w = w.context == i

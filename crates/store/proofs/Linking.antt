@@ -1,6 +1,7 @@
 -- What a new node and a new edge leave of the ties between the tables.
-use Rattle.std.proofs.Common.{◌≡◌, ℕ, zero, suc, ◌<◌, ◌≤◌, List, [], ◌∷◌, ◌++◌, length, get_or, take, set, Some, None, sym, refl, ap, ◌∙◌, subst, inl, inr, arith}
+use Rattle.std.proofs.Common.{◌≡◌, ℕ, ◌<◌, ◌≤◌, List, [], ◌∷◌, ◌++◌, length, get_or, take, set, Some, None, sym, ap, ◌∙◌, subst, inl, inr, arith}
 use Rattle.std.proofs.lemmas.List.{map-append, length-map, length_push, get_or-set_same, get_or-set_other, get_or_append_left, get_or_push, take-append-le, take_at, length-set}
+use Rattle.std.proofs.lemmas.List.Elements.{All-map, All-push}
 use Rattle.std.proofs.lemmas.Bool.{cases_eq}
 use Rattle.kinds.specs.declared.edge.Edge.{Edge}
 use Rattle.store.specs.Edges.{block_at, newest}
@@ -16,21 +17,10 @@ length_edges ls = length-map ls (λ (l : Link). l.edge)
 pub edges_push : (ls : List Link) (l : Link) → edges_in (ls ++ l ∷ []) ≡ edges_in ls ++ l.edge ∷ []
 edges_push ls l = map-append (λ (x : Link). x.edge) ls (l ∷ [])
 
-pub get_or_edges : (ls : List Link) (k : ℕ) (x : Link) → get_or (edges_in ls) k x.edge ≡ (get_or ls k x).edge
-get_or_edges [] k x = refl
-get_or_edges (l ∷ ls) zero x = refl
-get_or_edges (l ∷ ls) (suc k) x = get_or_edges ls k x
-
--- some link, from which the default of any edge can be read
-edge_within : (d : Direction) (ns : List Node) (ls : List Link) → Within d ns ls → (k : ℕ) (x : Edge) → k < length (edges_in ls)
-    → block_at d (get_or (edges_in ls) k x) < length ns
-edge_within d ns [] w k x lt = absurd (omega arith)
-edge_within d ns (l ∷ ls) w zero x lt = w 0 l (omega arith)
-edge_within d ns (l ∷ ls) w (suc k) x lt = edge_within d ns ls (λ j y h. w (suc j) y (omega arith)) k x (omega arith)
-
 -- a number that is no node has no edge
 pub newest_outside : (d : Direction) (ns : List Node) (ls : List Link) (b : ℕ) → Within d ns ls → length ns ≤ b → newest d b (edges_in ls) ≡ None
-newest_outside d ns ls b w le = newest_none d b (edges_in ls) (λ k x lt e. let h = edge_within d ns ls w k x lt in omega arith)
+newest_outside d ns ls b w le =
+    newest_none d b (edges_in ls) (All-map (λ e. block_at d e ≡ b → ⊥) (λ l. l.edge) ls (λ k x lt e. let h = w k x lt in omega arith))
 
 -- one node more, with no edges
 pub firsts_node : (d : Direction) (ns : List Node) (ls : List Link) (n : Node) → toward d n.first ≡ None → Within d ns ls → Firsts d ns (edges_in ls)
@@ -95,5 +85,4 @@ nexts_edge d ls l q h =
 pub within_edge : (d : Direction) (ns ms : List Node) (ls : List Link) (l : Link) → length ms ≡ length ns → block_at d l.edge < length ns → Within d ns ls
     → Within d ms (ls ++ l ∷ [])
 within_edge d ns ms ls l e h w =
-    let P : ℕ → Link → Type 0 = λ k y. block_at d y.edge < length ms in
-    at_push P ls l (omega arith) (λ k x lt. let z = w k x lt in omega arith)
+    All-push (λ x. block_at d x.edge < length ms) ls l (λ k x lt. let z = w k x lt in omega arith) (omega arith)

@@ -1,5 +1,6 @@
 -- What is known of the tables of a store, for either direction.
-use Rattle.std.proofs.Common.{◌≡◌, ℕ, ◌<◌, ◌≤◌, ◌∷◌, length, get_or, take, Some, None, Option, vec_items, sym, refl, ap, ◌∙◌, subst, inl, inr, arith}
+use Rattle.std.proofs.Common.{◌≡◌, ℕ, ◌<◌, ◌∷◌, length, get_or, take, Some, None, Option, vec_items, sym, refl, ap, ◌∙◌, subst, inl, inr, arith}
+use Rattle.std.proofs.Math.ListN.{get_or-map}
 use Rattle.std.proofs.lemmas.Bool.{cases_lt}
 use Rattle.std.proofs.lemmas.List.{get_or_past}
 use Rattle.store.specs.Edges.{block_at, newest, rest, HeadOf}
@@ -10,7 +11,7 @@ use Rattle.store.specs.declared.direction.Direction.TheVariants.{Outgoing, Incom
 use Rattle.store.specs.declared.edge_store.EdgeStore.{EdgeStore}
 use Rattle.store.specs.declared.link.Link.{Link}
 use Rattle.store.specs.declared.link.Node.{Node}
-use Rattle.store.proofs.Linking.{get_or_edges, length_edges, newest_outside}
+use Rattle.store.proofs.Linking.{length_edges, newest_outside}
 use Rattle.store.proofs.Newest.{newest_head, rest_next}
 
 -- the first edge of the node n, which stands at b
@@ -40,7 +41,7 @@ pub link_step : (d : Direction) (s : EdgeStore) (k : ℕ) (l : Link) → k < len
     → rest d (edges_of s) (Some k) ≡ l.edge ∷ rest d (edges_of s) (toward d l.next)
 link_step d s k l lt g =
     let ls = vec_items s.links in
-    let e : get_or (edges_in ls) k l.edge ≡ l.edge = get_or_edges ls k l ∙ ap (λ (x : Link). x.edge) (sym g) in
+    let e : get_or (edges_in ls) k l.edge ≡ l.edge = get_or-map (λ (x : Link). x.edge) ls k l ∙ ap (λ (x : Link). x.edge) (sym g) in
     let P : Link → Type 0 = λ x. toward d x.next ≡ newest d (block_at d x.edge) (take k (edges_in ls)) in
     let q : toward d l.next ≡ newest d (block_at d l.edge) (take k (edges_in ls)) = (subst P (sym g) (s.nexts d k l lt)) in
     let m : k < length (edges_in ls) = omega (arith, length_edges ls) in

@@ -1,7 +1,7 @@
 -- How the store's two tables are tied together. Assumes nothing.
 --
 --   edges_in ls      the edges of a table of links, in the order made
---   code o           an edge number or none as one number, so that two can be compared
+--   code o           one more than a number, 0 for none
 --   toward d p       the one of the two values p that is for the direction d
 --   Firsts d ns es   each node keeps the number of its newest edge in the direction d
 --   Nexts d ls       each edge keeps the number of the newest of those made before it at the same block

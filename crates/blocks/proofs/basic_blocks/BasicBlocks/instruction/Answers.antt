@@ -11,9 +11,9 @@ pub returns : goal.returns
 returns c =
     sym (option_map_id c.nth.result)
     ∙ nth_from_yields_List c.nth.result c.nth.new.self c.args.index c.nth.ensures.ran
-        (YieldsList-from_map _ (λ i. i.instruction)
-          (YieldsList-at c.map.ensures.source
-            (YieldsList-from_filter _ (λ i. i.block == c.args.block)
-              (YieldsList-at c.filter.ensures.source (YieldsList-from_slice (instructions_of c.args.self.now) (cc)))
-              c.filter.ensures.closure (λ x r q k. search (rules, tests))))
-          c.map.ensures.closure (λ x r q k. search rules))
+    (YieldsList-from_map _ (λ i. i.instruction)
+    (YieldsList-at c.map.ensures.source
+    (YieldsList-from_filter _ (λ i. i.block == c.args.block)
+    (YieldsList-at c.filter.ensures.source (YieldsList-from_slice (instructions_of c.args.self.now) (cc)))
+    c.filter.ensures.closure (λ x r q k. search (rules, tests))))
+    c.map.ensures.closure (λ x r q k. search rules))

@@ -1,5 +1,5 @@
 use Rattle.std.proofs.Common.{List, sym, refl, subst}
-use Rattle.blocks.specs.Tables.{Flagged, Inside}
+use Rattle.blocks.specs.Tables.{Flagged}
 use Rattle.blocks.specs.declared.basic_block.BasicBlock.{BasicBlock}
 use Rattle.blocks.proofs.Marks.{flagged_block}
 use Rattle.blocks.proofs.basic_blocks.BasicBlocks.push.Goals as goal

@@ -1,4 +1,4 @@
-use Rattle.std.proofs.Common.{reverse, refl, ap, ◌∙◌, arith, rules}
+use Rattle.std.proofs.Common.{reverse, refl, ap, ◌∙◌, arith}
 use Rattle.std.proofs.lemmas.List.{length_push}
 use Rattle.blocks.specs.Highest.{highest}
 use Rattle.blocks.proofs.Highest.{highest_push}
@@ -26,5 +26,5 @@ returns c =
     let w : WaitingEntry = record { context = c.args.context; kind = c.args.kind; block = c.args.block } in
     let cs = reverse s.stack.items in
     changed s _ (with_entry c.args.kind c.args.block) 1 _ c.args.context refl
-        (ap (contexts_in cs) c.push_reserved.ensures.items ∙ contexts_filed cs s.waiting.items w)
-        c.requires.within (λ x. length_push x.entries _) (bound_entry c.args.kind c.args.block)
+    (ap (contexts_in cs) c.push_reserved.ensures.items ∙ contexts_filed cs s.waiting.items w)
+    c.requires.within (λ x. length_push x.entries _) (bound_entry c.args.kind c.args.block)

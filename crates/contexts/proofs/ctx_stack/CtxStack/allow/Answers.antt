@@ -1,4 +1,4 @@
-use Rattle.std.proofs.Common.{◌<◌, length, refl, ap, arith, rules}
+use Rattle.std.proofs.Common.{◌<◌, length, refl, ap, arith}
 use Rattle.contexts.specs.Contexts.{with_flag}
 use Rattle.contexts.specs.Tables.{context_of}
 use Rattle.contexts.proofs.Bounds.{bound_flag, changed}
@@ -15,6 +15,6 @@ returns c =
     let f = with_flag c.args.kind in
     let lt : i < length s.stack.items = omega (arith, context_index s i c.requires, s.stack.ok.0) in
     changed s _ f 0 0 i refl
-        (contexts_set f s.stack.items i c.allow.new.self c.index_mut.result.now s.waiting.items lt c.index_mut.ensures.value
-          (λ es. ap (λ x. context_of x es) c.allow.ensures))
-        c.requires (λ x. omega arith) (bound_flag c.args.kind)
+    (contexts_set f s.stack.items i c.allow.new.self c.index_mut.result.now s.waiting.items lt c.index_mut.ensures.value
+    (λ es. ap (λ x. context_of x es) c.allow.ensures))
+    c.requires (λ x. omega arith) (bound_flag c.args.kind)

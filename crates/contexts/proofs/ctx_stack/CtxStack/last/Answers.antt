@@ -1,5 +1,5 @@
-use Rattle.std.proofs.Common.{◌≡◌, ◌-◌, ◌<◌, length, get_or, ap, ◌∙◌, arith, rules}
-use Rattle.contexts.proofs.Views.{contexts_none, is_top}
+use Rattle.std.proofs.Common.{◌≡◌, ◌-◌, ◌<◌, get_or, ◌∙◌, rules}
+use Rattle.contexts.proofs.Views.{is_top}
 use Rattle.contexts.proofs.ctx_stack.CtxStack.last.Goals as goal
 
 pub returns : goal.returns

@@ -1,4 +1,4 @@
-use Rattle.std.proofs.Common.{◌≡◌, ◌+◌, ◌<◌, length, refl, ap, ◌∙◌, arith, rules}
+use Rattle.std.proofs.Common.{◌≡◌, ◌+◌, ◌<◌, length, refl, ap, ◌∙◌, arith}
 use Rattle.kinds.specs.declared.context.EntryKind.{EntryKind}
 use Rattle.kinds.specs.declared.context.EntryKind.TheVariants.{Break, Continue}
 use Rattle.contexts.specs.Contexts.{Context, with_target}
@@ -22,6 +22,6 @@ returns c =
     let old = c.index_mut.result.now in
     let lt : i < length s.stack.items = omega (arith, context_index s i c.requires, s.stack.ok.0) in
     changed s _ f 0 _ i refl
-        (contexts_set f s.stack.items i c.set_target.new.self old s.waiting.items lt c.index_mut.ensures.value
-          (λ es. ap (λ x. context_of x es) c.set_target.ensures ∙ target_fits c.args.kind c.args.target old es))
-        c.requires (same c.args.kind c.args.target) (bound_target c.args.kind c.args.target)
+    (contexts_set f s.stack.items i c.set_target.new.self old s.waiting.items lt c.index_mut.ensures.value
+    (λ es. ap (λ x. context_of x es) c.set_target.ensures ∙ target_fits c.args.kind c.args.target old es))
+    c.requires (same c.args.kind c.args.target) (bound_target c.args.kind c.args.target)

@@ -1,4 +1,4 @@
-use Rattle.std.proofs.Common.{◌≡◌, suc, true, ◌-◌, ◌≤◌, List, reverse, length, take, count_by, sym, refl, ap, ◌∙◌, subst, arith, rules}
+use Rattle.std.proofs.Common.{◌≡◌, true, ◌-◌, ◌≤◌, List, reverse, length, take, count_by, sym, refl, ap, ◌∙◌, subst, arith}
 use Rattle.std.proofs.lemmas.List.Elements.{All-take}
 use Rattle.std.proofs.lemmas.List.{length-reverse, length-take}
 use Rattle.blocks.specs.Highest.{highest}

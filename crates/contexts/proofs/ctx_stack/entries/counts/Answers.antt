@@ -9,15 +9,15 @@ use borrow.Author.Tests.{tests}
 pub returns-clause-drawn : goal.returns-clause-drawn
 returns-clause-drawn c =
     count_from_yields_List c.filter.result c.count-drawn.result c.count-drawn.ensures.ran
-        (YieldsList-from_filter _ (draws c.args.top.number c.args.top.ctx)
-            (YieldsList-at c.filter.ensures.source (YieldsList-from_slice c.args.waiting.now (cc)))
-            c.filter.ensures.closure (λ x r q k. search (rules, tests)))
+    (YieldsList-from_filter _ (draws c.args.top.number c.args.top.ctx)
+    (YieldsList-at c.filter.ensures.source (YieldsList-from_slice c.args.waiting.now (cc)))
+    c.filter.ensures.closure (λ x r q k. search (rules, tests)))
     ∙ length-filter (draws c.args.top.number c.args.top.ctx) c.args.waiting.now
 
 pub returns-clause-untargeted : goal.returns-clause-untargeted
 returns-clause-untargeted c =
     count_from_yields_List c.filter-2.result c.count-untargeted.result c.count-untargeted.ensures.ran
-        (YieldsList-from_filter _ (lacks c.args.top.number c.args.top.ctx)
-            (YieldsList-at c.filter-2.ensures.source (YieldsList-from_slice c.args.waiting.now (cc)))
-            c.filter-2.ensures.closure (λ x r q k. search (rules, tests)))
+    (YieldsList-from_filter _ (lacks c.args.top.number c.args.top.ctx)
+    (YieldsList-at c.filter-2.ensures.source (YieldsList-from_slice c.args.waiting.now (cc)))
+    c.filter-2.ensures.closure (λ x r q k. search (rules, tests)))
     ∙ length-filter (lacks c.args.top.number c.args.top.ctx) c.args.waiting.now

@@ -1,6 +1,5 @@
-use Rattle.std.proofs.Common.{not, ◌==◌, rules}
+use Rattle.std.proofs.Common.{rules}
 use Rattle.std.proofs.lemmas.Fn.{filter_same}
-use Rattle.contexts.specs.Tables.{waits_in}
 use Rattle.contexts.proofs.ctx_stack.entries.release.Goals as goal
 
 pub returns-clause-items : goal.returns-clause-items

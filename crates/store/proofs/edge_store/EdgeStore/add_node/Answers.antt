@@ -1,12 +1,9 @@
-use Rattle.std.proofs.Common.{List, None, sym, refl, ◌≡◌, subst}
-use Rattle.store.specs.Links.{edges_in, toward, Firsts, Within}
-use Rattle.store.specs.declared.direction.Direction.{Direction}
-use Rattle.store.specs.declared.direction.Direction.TheVariants.{Outgoing, Incoming}
+use Rattle.std.proofs.Common.{List, sym, subst}
+use Rattle.store.specs.Links.{edges_in, Firsts, Within}
 use Rattle.store.specs.declared.link.Node.{Node}
 use Rattle.store.proofs.Linking.{firsts_node, within_node}
 use Rattle.store.proofs.Tables.{isolated}
 use Rattle.store.proofs.edge_store.EdgeStore.add_node.Goals as goal
-
 
 pub invariant_of-self-clause-firsts : goal.invariant_of-self-clause-firsts
 invariant_of-self-clause-firsts c d =

@@ -1,4 +1,4 @@
-use Rattle.std.proofs.Common.{◌≡◌, ◌<◌, ◌∷◌, length, get_or, Some, sym, ap, ◌∙◌, arith, rules}
+use Rattle.std.proofs.Common.{◌≡◌, ◌<◌, ◌∷◌, length, get_or, Some, sym, ap, ◌∙◌, rules}
 use Rattle.store.specs.Edges.{rest}
 use Rattle.store.specs.View.{edges_of}
 use Rattle.store.proofs.Tables.{link_step}

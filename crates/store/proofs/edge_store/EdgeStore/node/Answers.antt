@@ -1,6 +1,4 @@
-use Rattle.std.proofs.Common.{◌≡◌, get_or, sym, ap, subst, rules, arith}
-use Rattle.std.proofs.lemmas.Grind.{common_steps}
-use Rattle.std.proofs.lemmas.Option.{gets}
+use Rattle.std.proofs.Common.{◌≡◌, get_or, sym, subst, rules}
 use Rattle.store.specs.Edges.{HeadOf}
 use Rattle.store.specs.Links.{toward}
 use Rattle.store.specs.View.{edges_of}
