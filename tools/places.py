@@ -70,7 +70,9 @@ def functions():
             while depth:
                 depth += (text[end] == "(") - (text[end] == ")")
                 end += 1
-            rest = re.compile(rf"(.*?)(?:^{found.group(1)}\{{$(.*?)^{found.group(1)}\}}$|;$|\{{$(.*?)^{found.group(1)}\}}$)", re.M | re.S).match(text, end)
+            rest = re.compile(
+                rf"(.*?)(?:^{found.group(1)}\{{$(.*?)^{found.group(1)}\}}$|^{found.group(1)}\{{\}}$|;$|\{{$(.*?)^{found.group(1)}\}}$)", re.M | re.S
+            ).match(text, end)
             clauses = re.findall(r"(?:requires|ensures)(?: \w+)? \{ (.*?) \}$", rest.group(1), re.M | re.S)
             yield (
                 path.relative_to(ROOT).parts[1],

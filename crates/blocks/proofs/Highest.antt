@@ -1,5 +1,5 @@
 -- The highest number of a list, as the list grows or shrinks.
-use Rattle.std.proofs.Common.{◌≡◌, ℕ, zero, suc, ◌-◌, ◌<◌, ◌≤◌, max, Bool, true, false, cond, List, [], ◌∷◌, ◌++◌, length, get_or, take, set, Some, None, filter, Option, ap, arith, MatchOption}
+use Rattle.std.proofs.Common.{◌≡◌, ℕ, zero, suc, ◌-◌, ◌<◌, ◌≤◌, max, List, [], ◌∷◌, ◌++◌, length, get_or, take, Some, None, Option, ap, arith, MatchOption}
 use Rattle.store.specs.Links.{code}
 use Rattle.blocks.specs.Highest.{highest}
 
@@ -16,17 +16,6 @@ pub highest_take : {X : Type 0} (f : X → ℕ) (j : ℕ) (xs : List X) → high
 highest_take f zero xs = omega arith
 highest_take f (suc j) [] = omega arith
 highest_take f (suc j) (x ∷ xs) = let h = highest_take f j xs in omega arith
-
-pub highest_set : {X : Type 0} (f : X → ℕ) (xs : List X) (i : ℕ) (x : X) → highest f (set xs i x) ≤ max (highest f xs) (f x)
-highest_set f [] i x = omega arith
-highest_set f (y ∷ xs) zero x = omega arith
-highest_set f (y ∷ xs) (suc i) x = let h = highest_set f xs i x in omega arith
-
-pub highest_kept : {X : Type 0} (f : X → ℕ) (p : X → Bool) (xs : List X) → highest f (filter p xs) ≤ highest f xs
-highest_kept f p [] = omega arith
-highest_kept f p (x ∷ xs) =
-    let h = highest_kept f p xs in
-    elim (p x) as (λ t. highest f (cond t (x ∷ filter p xs) (filter p xs)) ≤ max (f x) (highest f xs)) [ true ↦ omega arith | false ↦ omega arith ]
 
 pub code_known : (o : Option ℕ) (n : ℕ) → code o ≤ n → MatchOption o (⊥ → ⊥) (λ b. b < n)
 code_known None n l = λ z. z

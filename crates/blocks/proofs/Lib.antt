@@ -1,4 +1,2 @@
 pub mod Highest
 pub mod Marks
-pub mod Rule
-pub mod Seeking

@@ -10,7 +10,8 @@
 --   edge_added a b k g        g with that mark and that edge
 --   instructions_in b is      the instructions of the block b, in their order
 --   Grown n e i g h           h has n blocks, e edges and i instructions more than g
-use Rattle.std.specs.Prelude.{◌≡◌, ℕ, ◌+◌, Bool, true, false, cond, ◌&&◌, ◌||◌, List, [], ◌∷◌, ◌++◌, length, ◌==◌, slice_index_or, slice_set}
+use Rattle.std.specs.Prelude.{◌≡◌, ℕ, ◌+◌, Bool, true, false, cond, ◌&&◌, List, [], ◌∷◌, ◌++◌, map, length, filter, ◌==◌, slice_index_or, slice_set}
+use Rattle.std.specs.List.{list_any}
 use Rattle.blocks.specs.declared.basic_block.BlockInstruction.{BlockInstruction}
 use Rattle.kinds.specs.declared.block.Instruction.{Instruction}
 use Rattle.kinds.specs.declared.block.InstructionKind.{InstructionKind}
@@ -51,13 +52,11 @@ is_unreachable instruction.Condition = false
 is_unreachable (instruction.Iteration i) = false
 
 abbrev pub instructions_in : ℕ → List BlockInstruction → List Instruction
-instructions_in b [] = []
-instructions_in b (i ∷ is) = cond (i.block == b) (i.instruction ∷ instructions_in b is) (instructions_in b is)
+instructions_in b is = map (λ i. i.instruction) (filter (λ i. i.block == b) is)
 
 -- whether the block b holds an Unreachable instruction
 abbrev pub holds_unreachable : ℕ → List BlockInstruction → Bool
-holds_unreachable b [] = false
-holds_unreachable b (i ∷ is) = (i.block == b && is_unreachable i.instruction.kind) || holds_unreachable b is
+holds_unreachable b is = list_any (λ i. i.block == b && is_unreachable i.instruction.kind) is
 
 -- the mark that a way control never takes leaves: unreachable, where no edge came in before
 abbrev pub never_taken : Bool → Bool → Bool

@@ -3,18 +3,18 @@ ghost use Rattle.std.specs.Prelude.{◌≡◌, ◌<◌, length, IfOk};
 ghost use Rattle.std.specs.Result.{result_err};
 ghost use Rattle.kinds.specs.Replies.{told};
 ghost use Rattle.store.specs.Edges.{listed};
-ghost use Rattle.store.specs.View.{nodes_of, edges_of};
+ghost use Rattle.store.specs.View.{nodes_of, edges_of, left};
 ghost use Rattle.blocks.specs.View.{graph_of as built};
-ghost use Rattle.cfg.specs.Reads.{no_block, mark_of, instruction_of, left};
+ghost use Rattle.cfg.specs.Reads.{no_block, mark_of, instruction_of};
 ghost use Rattle.cfg.specs.View.{graph_of};
 
-use crate::edges::Edges;
 use blocks::block_graph::BlockGraph;
 use book::reply::Tally;
 use kinds::block::{BlockNodeId, Instruction};
 use kinds::refusal::Refusal;
 use store::direction::Direction;
 use store::edge_store::EdgeStore;
+use store::edges::Edges;
 
 // A graph that was built: nothing changes it any more.
 #[derive(Drop)]
@@ -105,12 +105,6 @@ impl ControlFlowGraph {
     pub(crate) fn edges_at(&self, block: BlockNodeId, direction: Direction) -> Edges<'_>
         ensures { left result ≡ listed direction block (graph_of self.now).edges }
     {
-        let store = self.blocks.store();
-        let place = store.first_edge(block, direction);
-        Edges {
-            store,
-            place,
-            direction,
-        }
+        self.blocks.store().edges(block, direction)
     }
 }

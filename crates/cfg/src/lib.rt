@@ -2,6 +2,5 @@
 #![tactic(auto)]
 
 pub mod control_flow_graph;
-pub mod edges;
 pub mod evaluators;
 pub mod loop_query;

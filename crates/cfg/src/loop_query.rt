@@ -3,16 +3,16 @@ ghost use Rattle.std.specs.Prelude.{◌≡◌, Bool};
 ghost use Rattle.kinds.specs.Replies.{told};
 ghost use Rattle.kinds.specs.declared.block.Instruction.{Instruction as AnInstruction};
 ghost use Rattle.cfg.specs.Loops.{first_fit, after_fit, is_backedge, jump_target, only, bare, loop_from, loop_start, loop_refusal};
-ghost use Rattle.cfg.specs.Reads.{left};
 ghost use Rattle.cfg.specs.View.{graph_of};
 ghost use Rattle.blocks.specs.Blocks.{instructions_in};
+ghost use Rattle.store.specs.View.{left};
 
 use crate::control_flow_graph::ControlFlowGraph;
-use crate::edges::Edges;
 use kinds::block::{BlockNodeId, Instruction};
 use kinds::edge::{Edge, EdgeType};
 use kinds::refusal::Refusal;
 use store::direction::Direction;
+use store::edges::Edges;
 
 // Who says whether an instruction is a condition that always holds.
 pub trait EvalConstCondition {

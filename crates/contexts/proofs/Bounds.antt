@@ -1,13 +1,16 @@
 -- The blocks that the contexts name.
-use Rattle.std.proofs.Common.{◌≡◌, ℕ, suc, ◌<◌, ◌≤◌, max, true, false, cond, eqb, List, [], ◌∷◌, reverse, length, ap, inl, inr, arith}
+use Rattle.std.proofs.Common.{◌≡◌, ℕ, suc, ◌+◌, ◌<◌, ◌≤◌, max, true, false, cond, eqb, List, [], ◌∷◌, map, reverse, length, filter, ap, ◌∙◌, inl, inr, arith}
 use Rattle.std.proofs.lemmas.List.{length-reverse}
 use Rattle.std.proofs.lemmas.Bool.{cases_eq, eq-eqb}
 use Rattle.blocks.proofs.Highest.{highest_push}
 use Rattle.blocks.specs.Highest.{highest}
-use Rattle.contexts.specs.Contexts.{Context, with_target, with_entry, with_flag, changed_at, block_bound, above_entry}
+use Rattle.contexts.specs.Contexts.{Context, with_target, with_entry, with_flag, changed_at, waiting_count, block_bound, above_entry}
 use Rattle.contexts.specs.Tables.{waits_in, entry_of, entries_of, context_of, contexts_in, above_block, above_context}
+use Rattle.contexts.specs.View.{Changed, contexts_of}
 use Rattle.contexts.specs.declared.ctx.Ctx.{Ctx}
 use Rattle.contexts.specs.declared.ctx.WaitingEntry.{WaitingEntry}
+use Rattle.contexts.specs.declared.ctx_stack.CtxStack.{CtxStack}
+use Rattle.contexts.proofs.Waiting.{waiting_changed}
 use Rattle.kinds.specs.declared.context.EntryKind.{EntryKind}
 use Rattle.kinds.specs.declared.context.EntryKind.TheVariants.{Break, Continue}
 
@@ -26,19 +29,24 @@ pub bound_target : (k : EntryKind) (t : ℕ) (c : Context) → block_bound (with
 bound_target Break t c = omega arith
 bound_target Continue t c = omega arith
 
-pub bound_same : (X K : List Context) (f : Context → Context) (m i : ℕ) → X ≡ changed_at f i K → ((c : Context) → block_bound (f c) ≤ max (block_bound c) m)
-    → highest block_bound X ≤ max (highest block_bound K) m
-bound_same X K f m i e h = let z = bound_changed f m i K h in let y = ap (highest block_bound) e in omega arith
-
 pub bound_flag : (k : EntryKind) (c : Context) → block_bound (with_flag k c) ≤ max (block_bound c) 0
 bound_flag k c = omega arith
+
+-- a change of the context of the number i
+pub changed : (old new : CtxStack) (f : Context → Context) (n b i : ℕ) → new.text ≡ old.text → contexts_of new ≡ changed_at f i (contexts_of old)
+    → i < length (contexts_of old) → ((c : Context) → length (f c).entries ≡ length c.entries + n) → ((c : Context) → block_bound (f c) ≤ max (block_bound c) b)
+    → Changed old new (changed_at f i (contexts_of old)) n b
+changed old new f n b i t e l h k =
+    let bound = bound_changed f b i (contexts_of old) k in
+    let same = ap (highest block_bound) e in
+    record { text = t; contexts = e; waiting = ap waiting_count e ∙ waiting_changed f n i (contexts_of old) h l; blocks = omega arith }
 
 -- every entry names a block that its context names
 bound_more : (c : Ctx) (n : ℕ) (ws : List WaitingEntry) (w : WaitingEntry)
     → block_bound (context_of c (entries_of n ws)) ≤ block_bound (context_of c (entries_of n (w ∷ ws)))
 bound_more c n ws w =
     elim (waits_in n w) as
-    (λ t. block_bound (context_of c (entries_of n ws)) ≤ block_bound (context_of c (cond t (entry_of w ∷ entries_of n ws) (entries_of n ws)))) [
+    (λ t. block_bound (context_of c (entries_of n ws)) ≤ block_bound (context_of c (map entry_of (cond t (w ∷ filter (waits_in n) ws) (filter (waits_in n) ws))))) [
       | true ↦
           omega arith
       | false ↦ omega arith

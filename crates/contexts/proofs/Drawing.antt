@@ -1,5 +1,5 @@
 -- What resolving a context draws, entry by entry.
-use Rattle.std.proofs.Common.{◌≡◌, ℕ, ◌+◌, ◌<◌, Bool, true, false, cond, not, List, [], ◌∷◌, ◌++◌, length, get_or, take, is_some, sum_by, count_by, sym, refl, ap, ◌∙◌, arith}
+use Rattle.std.proofs.Common.{◌≡◌, ℕ, ◌+◌, ◌<◌, Bool, true, false, cond, not, ◌&&◌, List, [], ◌∷◌, ◌++◌, map, length, get_or, take, is_some, filter, count_by, sym, refl, ap, ◌∙◌, zero-add, arith}
 use Rattle.std.proofs.lemmas.List.{take_more}
 use Rattle.std.proofs.lemmas.List.Sums.{sum_by-cons}
 use Rattle.blocks.specs.Blocks.{GraphState}
@@ -25,45 +25,32 @@ draws_own at c es [] g = refl
 draws_own at c es (w ∷ ws) g =
     elim (waits_in at w) as
     (λ t. all_drawn at c ws (cond t (jump_added w.block (jump_of w.kind c) g) g)
-    ≡ entries_drawn (context_of c es) (cond t (entry_of w ∷ entries_of at ws) (entries_of at ws)) g) [
+    ≡ entries_drawn (context_of c es) (map entry_of (cond t (w ∷ filter (waits_in at) ws) (filter (waits_in at) ws))) g) [
       | true ↦ draws_own at c es ws _
           ∙ ap (λ o. entries_drawn (context_of c es) (entries_of at ws) (jump_added w.block o g)) (sym (jump_fits w.kind c es))
       | false ↦ draws_own at c es ws g
     ]
 
-pub draws_own_count : (at : ℕ) (c : Ctx) (es : List Entry) (ws : List WaitingEntry)
-    → sum_by (draws at c) ws ≡ count_by (has_target (context_of c es)) (entries_of at ws)
-draws_own_count at c es [] = refl
-draws_own_count at c es (w ∷ ws) =
-    sum_by-cons (draws at c) w ws ∙
-    elim (waits_in at w) as
-    (λ t. cond t (cond (is_some (jump_of w.kind c)) 1 0) 0 + sum_by (draws at c) ws
-    ≡ count_by (has_target (context_of c es)) (cond t (entry_of w ∷ entries_of at ws) (entries_of at ws))) [
-      | true ↦ (let a = sum_by-cons (λ (e : Entry). cond (has_target (context_of c es) e) 1 0) (entry_of w) (entries_of at ws) in
-          let h = draws_own_count at c es ws in
-          let j : ◌≡◌ {A = ℕ} (cond (has_target (context_of c es) (entry_of w)) 1 0) (cond (is_some (jump_of w.kind c)) 1 0) =
-          ap (λ o. cond (is_some o) 1 0) (jump_fits w.kind c es) in omega arith)
-      | false ↦ (let h = draws_own_count at c es ws in omega arith)
+count_within : (p : Entry → Bool) (r : WaitingEntry → Bool) (at : ℕ) (ws : List WaitingEntry) → ((w : WaitingEntry) → r w ≡ (waits_in at w && p (entry_of w)))
+    → count_by r ws ≡ count_by p (entries_of at ws)
+count_within p r at [] h = refl
+count_within p r at (w ∷ ws) h =
+    sum_by-cons (λ (x : WaitingEntry). cond (r x) 1 0) w ws
+    ∙ ap (λ t. cond t 1 0 + count_by r ws) (h w)
+    ∙ elim (waits_in at w) as
+    (λ t. cond (t && p (entry_of w)) 1 0 + count_by r ws ≡ count_by p (map entry_of (cond t (w ∷ filter (waits_in at) ws) (filter (waits_in at) ws)))) [
+      | true ↦ ap (λ n. cond (p (entry_of w)) 1 0 + n) (count_within p r at ws h) ∙ sym (sum_by-cons (λ (e : Entry). cond (p e) 1 0) (entry_of w) (entries_of at ws))
+      | false ↦ zero-add _ ∙ count_within p r at ws h
     ]
 
-not_one : (t : Bool) → ◌≡◌ {A = ℕ} (cond t 0 1) (cond (not t) 1 0)
-not_one true = refl
-not_one false = refl
+pub draws_own_count : (at : ℕ) (c : Ctx) (es : List Entry) (ws : List WaitingEntry) → count_by (draws at c) ws ≡ count_by (has_target (context_of c es)) (entries_of at ws)
+draws_own_count at c es ws =
+    count_within (has_target (context_of c es)) (draws at c) at ws (λ w. ap (λ o. waits_in at w && is_some o) (sym (jump_fits w.kind c es)))
 
 pub lacks_own_count : (at : ℕ) (c : Ctx) (es : List Entry) (ws : List WaitingEntry)
-    → sum_by (lacks at c) ws ≡ count_by (λ (e : Entry). not (has_target (context_of c es) e)) (entries_of at ws)
-lacks_own_count at c es [] = refl
-lacks_own_count at c es (w ∷ ws) =
-    sum_by-cons (lacks at c) w ws ∙
-    elim (waits_in at w) as
-    (λ t. cond t (cond (is_some (jump_of w.kind c)) 0 1) 0 + sum_by (lacks at c) ws
-    ≡ count_by (λ (e : Entry). not (has_target (context_of c es) e)) (cond t (entry_of w ∷ entries_of at ws) (entries_of at ws))) [
-      | true ↦ (let a = sum_by-cons (λ (e : Entry). cond (not (has_target (context_of c es) e)) 1 0) (entry_of w) (entries_of at ws) in
-          let h = lacks_own_count at c es ws in
-          let j : ◌≡◌ {A = ℕ} (cond (is_some (jump_of w.kind c)) 0 1) (cond (not (has_target (context_of c es) (entry_of w))) 1 0) =
-          not_one (is_some (jump_of w.kind c)) ∙ ap (λ o. cond (not (is_some o)) 1 0) (sym (jump_fits w.kind c es)) in omega arith)
-      | false ↦ (let h = lacks_own_count at c es ws in omega arith)
-    ]
+    → count_by (lacks at c) ws ≡ count_by (λ (e : Entry). not (has_target (context_of c es) e)) (entries_of at ws)
+lacks_own_count at c es ws =
+    count_within (λ e. not (has_target (context_of c es) e)) (lacks at c) at ws (λ w. ap (λ o. waits_in at w && not (is_some o)) (sym (jump_fits w.kind c es)))
 
 -- each entry has a target or has none
 pub target_split : (c : Context) (es : List Entry) → count_by (has_target c) es + count_by (λ (e : Entry). not (has_target c e)) es ≡ length es

@@ -1,96 +1,38 @@
--- Labels within the text, and the search down the stack.
-use Rattle.std.proofs.Common.{◌≡◌, ℕ, ◌+◌, ◌-◌, ◌<◌, ◌≤◌, Bool, true, false, cond, ◌&&◌, List, [], ◌∷◌, ◌++◌, reverse, length, get_or, take, drop, set, Some, None, Decides, Option, sym, ap, ◌∙◌, inl, inr, arith}
-use Rattle.std.proofs.lemmas.Slice.Eq.{bytes_eq-Decides}
-use Rattle.std.proofs.lemmas.List.{length_push, length-set, get_or-set_same, get_or-set_other, get_or_append_left, get_or_push, take_more, reverse-append, length-reverse, length-take-le, length-take, get_or-take}
-use Rattle.std.proofs.lemmas.Bool.{cases_eq}
-use Rattle.std.proofs.lemmas.Bool.Decides.{same_from_decides}
-use Rattle.std.specs.Str.{bytes_eq}
-use Rattle.contexts.specs.Contexts.{label_fits, has_flag, label_matches, label_bytes}
-use Rattle.contexts.specs.Tables.{LabelsFit, found_in}
+-- The search down the stack.
+use Rattle.std.proofs.Common.{◌≡◌, ℕ, ◌≤◌, Bool, false, cond, ◌&&◌, List, [], ◌∷◌, ◌++◌, reverse, length, Some, None, Option, get_or, ap, ◌∙◌, arith}
+use Rattle.std.proofs.lemmas.List.{get_or_append_left, length_push, reverse-append}
+use Rattle.contexts.specs.Contexts.{found, has_flag, label_matches}
+use Rattle.contexts.specs.Tables.{LabelsFit, contexts_in}
 use Rattle.contexts.specs.declared.ctx.Ctx.{Ctx}
+use Rattle.contexts.specs.declared.ctx.WaitingEntry.{WaitingEntry}
 use Rattle.kinds.specs.declared.context.EntryKind.{EntryKind}
 use Rattle.kinds.specs.declared.context.Label.{Label}
+use Rattle.contexts.proofs.Views.{contexts_count}
 
-pub labels_push : (text : List ℕ) (cs : List Ctx) (c : Ctx) → LabelsFit text cs → label_fits text c.label ≡ true → LabelsFit text (cs ++ c ∷ [])
-labels_push text cs c h e k d l =
-    elim (cases_eq k (length cs)) [
-      | inl p ↦ (let g = get_or_push cs c d k (sym p) in rw g e)
-      | inr p ↦ (let m : k < length cs = omega (arith, length_push cs c) in let g = get_or_append_left cs (c ∷ []) d k m in rw g (h k d m))
-    ]
+-- the search in the stack cs goes on in those of its contexts that are left
+pub record GoesOn (text : List ℕ) (k : EntryKind) (l : Option Label) (ws : List WaitingEntry) (cs left : List Ctx) : Type 0 where
+  pub value : found text k l (contexts_in (reverse cs) ws) ≡ found text k l (contexts_in (reverse left) ws)
+  pub within : length left ≤ length cs
+  pub labels : LabelsFit text left
 
--- a write that leaves the label
-pub labels_kept : (text : List ℕ) (cs : List Ctx) (i : ℕ) (c old : Ctx) → old ≡ get_or cs i old → c.label ≡ old.label → LabelsFit text cs
-    → LabelsFit text (set cs i c)
-labels_kept text cs i c old g q h k x l =
-    let lt : k < length cs = simp length-set at l in
-    elim (cases_eq k i) [
-      | inl p ↦ (ap (λ j. label_fits text (get_or (set cs j c) k x).label) (sym p) ∙ ap (λ (y : Ctx). label_fits text y.label) (get_or-set_same cs k c x lt)
-          ∙ ap (label_fits text) q ∙ ap (λ (y : Ctx). label_fits text y.label) (g ∙ ap (λ j. get_or cs j old) (sym p)) ∙ h k old lt)
-      | inr p ↦ (ap (λ (y : Ctx). label_fits text y.label) (get_or-set_other cs i k c x p) ∙ h k x lt)
-    ]
+pub found_last : (text : List ℕ) (k : EntryKind) (l : Option Label) (ws : List WaitingEntry) (cs : List Ctx) (c : Ctx)
+    → found text k l (contexts_in (reverse (cs ++ c ∷ [])) ws)
+    ≡ cond c.flags.function None (cond (has_flag k c.flags && label_matches text l c.label) (Some (length cs)) (found text k l (contexts_in (reverse cs) ws)))
+found_last text k l ws cs c =
+    ap (λ z. found text k l (contexts_in z ws)) (reverse-append cs (c ∷ []))
+    ∙ ap (λ n. cond c.flags.function None (cond (has_flag k c.flags && label_matches text l c.label) (Some n) (found text k l (contexts_in (reverse cs) ws))))
+    (contexts_count cs ws)
 
-reverse_more : (cs : List Ctx) (i : ℕ) (c : Ctx) → i < length cs → c ≡ get_or cs i c → reverse (take (i + 1) cs) ≡ c ∷ reverse (take i cs)
-reverse_more cs i c h e = ap reverse (take_more cs i c h) ∙ reverse-append (take i cs) (get_or cs i c ∷ []) ∙ ap (λ x. x ∷ reverse (take i cs)) (sym e)
+passed : (f t : Bool) (x r : Option ℕ) → f ≡ false → t ≡ false → cond f None (cond t x r) ≡ r
+passed f t x r e g = rw (e, g)
 
--- one context further down
-pub found_more : (text : List ℕ) (k : EntryKind) (l : Option Label) (cs : List Ctx) (i : ℕ) (c : Ctx) → i < length cs → c ≡ get_or cs i c →
-    found_in text k l (reverse (take (i + 1) cs))
-    ≡ cond c.flags.function None (cond (has_flag k c.flags && label_matches text l c.label) (Some i) (found_in text k l (reverse (take i cs))))
-found_more text k l cs i c h e =
-    let le : i ≤ length cs = omega arith in
-    let n : length (reverse (take i cs)) ≡ i = length-reverse (take i cs) ∙ length-take-le i cs le in
-    ap (found_in text k l) (reverse_more cs i c h e)
-    ∙ ap (λ x. cond c.flags.function None
-    (cond (has_flag k c.flags && label_matches text l c.label) (Some x) (found_in text k l (reverse (take i cs))))) n
-
-abbrev pub Down : List ℕ → EntryKind → Option Label → List Ctx → ℕ → Ctx → Option ℕ
-Down text k l cs i c =
-    cond c.flags.function None
-    (cond (has_flag k c.flags && label_matches text l c.label) (Some (i - 1)) (found_in text k l (reverse (take (i - 1) cs))))
-
-pub found_down : (text : List ℕ) (k : EntryKind) (l : Option Label) (cs : List Ctx) (i : ℕ) (c : Ctx) → 0 < i → i ≤ length cs → c ≡ get_or cs (i - 1) c →
-    found_in text k l (reverse (take i cs)) ≡ Down text k l cs i c
-found_down text k l cs i c pos le e =
-    let n : i ≡ i - 1 + 1 = omega arith in
-    let lt : i - 1 < length cs = omega arith in
-    ap (λ x. found_in text k l (reverse (take x cs))) n ∙ found_more text k l cs (i - 1) c lt e
-
-pick_here : (f a n : Bool) (h r : Option ℕ) → f ≡ false → true ≡ a → true ≡ n → cond f None (cond (a && n) h r) ≡ h
-pick_here f a n h r e x y = rw (e, sym x, sym y)
-
-pick_flag : (f a n : Bool) (h r : Option ℕ) → f ≡ false → false ≡ a → cond f None (cond (a && n) h r) ≡ r
-pick_flag f a n h r e x = rw (e, sym x)
-
-pick_name : (f a n : Bool) (h r : Option ℕ) → f ≡ false → true ≡ a → false ≡ n → cond f None (cond (a && n) h r) ≡ r
-pick_name f a n h r e x y = rw (e, sym x, sym y)
-
-pub down_function : (text : List ℕ) (k : EntryKind) (l : Option Label) (cs : List Ctx) (i : ℕ) (c : Ctx) → c.flags.function ≡ true
-    → Down text k l cs i c ≡ None
-down_function text k l cs i c e = rw e
-
-pub down_here : (text : List ℕ) (k : EntryKind) (l : Option Label) (cs : List Ctx) (i : ℕ) (c : Ctx) → c.flags.function ≡ false
-    → true ≡ has_flag k c.flags → true ≡ label_matches text l c.label → Down text k l cs i c ≡ Some (i - 1)
-down_here text k l cs i c e f g = pick_here c.flags.function (has_flag k c.flags) (label_matches text l c.label) _ _ e f g
-
-pub down_flag : (text : List ℕ) (k : EntryKind) (l : Option Label) (cs : List Ctx) (i : ℕ) (c : Ctx) → c.flags.function ≡ false
-    → false ≡ has_flag k c.flags → Down text k l cs i c ≡ found_in text k l (reverse (take (i - 1) cs))
-down_flag text k l cs i c e f = pick_flag c.flags.function (has_flag k c.flags) (label_matches text l c.label) _ _ e f
-
-pub down_name : (text : List ℕ) (k : EntryKind) (l : Option Label) (cs : List Ctx) (i : ℕ) (c : Ctx) → c.flags.function ≡ false
-    → true ≡ has_flag k c.flags → false ≡ label_matches text l c.label → Down text k l cs i c ≡ found_in text k l (reverse (take (i - 1) cs))
-down_name text k l cs i c e f g = pick_name c.flags.function (has_flag k c.flags) (label_matches text l c.label) _ _ e f g
-
-pub bytes_same : (text : List ℕ) (l m : Label) (r : Bool)
-    → Decides r (take (l.offset + l.length - l.offset) (drop l.offset text) ≡ take (m.offset + m.length - m.offset) (drop m.offset text))
-    → r ≡ bytes_eq (label_bytes text l) (label_bytes text m)
-bytes_same text l m r h =
-    let e : l.offset + l.length - l.offset ≡ l.length = omega arith in
-    let f : m.offset + m.length - m.offset ≡ m.length = omega arith in
-    same_from_decides r (bytes_eq (label_bytes text l) (label_bytes text m)) (rw (e, f) at h) (bytes_eq-Decides (label_bytes text l) (label_bytes text m))
-
--- the contexts below the topmost
-pub labels_take : (text : List ℕ) (cs : List Ctx) (n : ℕ) → LabelsFit text cs → LabelsFit text (take n cs)
-labels_take text cs n h k d l =
-    let m : k < length cs = (let z = length-take n cs in omega arith) in
-    let lt : k < n = (let z = length-take n cs in omega arith) in
-    let g = get_or-take n cs k d lt in rw g (h k d m)
+-- the last of them neither takes the entry nor begins a function
+pub goes_on : (text : List ℕ) (k : EntryKind) (l : Option Label) (ws : List WaitingEntry) (cs left rest : List Ctx) (c : Ctx) → left ≡ rest ++ c ∷ []
+    → c.flags.function ≡ false → (has_flag k c.flags && label_matches text l c.label) ≡ false → GoesOn text k l ws cs left → GoesOn text k l ws cs rest
+goes_on text k l ws cs left rest c e f n h =
+    let m = ap length e ∙ length_push rest c in
+    let w = h.within in record {
+      value = h.value ∙ ap (λ z. found text k l (contexts_in (reverse z) ws)) e ∙ found_last text k l ws rest c ∙ passed c.flags.function _ _ _ f n;
+      within = omega arith;
+      labels = λ i d lt. (let g = h.labels i d (omega arith) in let q = ap (λ z. get_or z i d) e ∙ get_or_append_left rest (c ∷ []) d i lt in rw q at g);
+    }

@@ -3,21 +3,21 @@
 --   waits_in i w          the entry w waits in the context of the number i
 --   entries_of i ws       the entries of that context, in the order filed
 --   contexts_in cs ws     the contexts that the tables stand for, from a stack turned so that the topmost is first
---   found_in, jump_of ..  the search, a target and the changes of Contexts, over a row of the stack
---   draws i c w           1 if the entry w waits in the context c of the number i and has a target, else 0; lacks: if it has none
+--   jump_of ..            a target and the changes of Contexts, over a row of the stack
+--   draws i c w           whether the entry w waits in the context c of the number i and has a target; lacks: whether it has none
 --   all_drawn i c ws g    g with the Jump edges of those of ws that wait in the context c of the number i
 --   TopIs cs ws t         t is the topmost context with its number, none with an empty stack
 --   LabelsFit text cs     every label lies within the text
 --   above_block w         one more than the block of w; above_context: than the number of its context
-use Rattle.std.specs.Prelude.{◌≡◌, ℕ, suc, ◌<◌, Bool, true, cond, ◌&&◌, List, [], ◌∷◌, reverse, length, take, is_some, Some, None, Option, ◌==◌, slice_index_or}
+use Rattle.std.specs.Prelude.{◌≡◌, ℕ, suc, Bool, true, cond, not, ◌&&◌, List, [], ◌∷◌, map, reverse, length, take, is_some, Some, None, filter, Option, ◌==◌}
+use Rattle.std.specs.List.{All}
 use Rattle.blocks.specs.Blocks.{GraphState}
-use Rattle.contexts.specs.Contexts.{Entry, Context, label_fits, label_matches, has_flag, flag_set, jump_added}
+use Rattle.contexts.specs.Contexts.{Entry, Context, label_fits, flag_set, jump_added}
 use Rattle.contexts.specs.declared.ctx.Ctx.{Ctx}
 use Rattle.contexts.specs.declared.ctx.WaitingEntry.{WaitingEntry}
 use Rattle.contexts.specs.declared.ctx.Top.{Top}
 use Rattle.kinds.specs.declared.context.EntryKind.{EntryKind}
 use Rattle.kinds.specs.declared.context.EntryKind.TheVariants.{Break, Continue}
-use Rattle.kinds.specs.declared.context.Label.{Label}
 
 abbrev pub waits_in : ℕ → WaitingEntry → Bool
 waits_in i w = w.context == i
@@ -26,8 +26,7 @@ abbrev pub entry_of : WaitingEntry → Entry
 entry_of w = record { kind = w.kind; block = w.block }
 
 abbrev pub entries_of : ℕ → List WaitingEntry → List Entry
-entries_of i [] = []
-entries_of i (w ∷ ws) = cond (waits_in i w) (entry_of w ∷ entries_of i ws) (entries_of i ws)
+entries_of i ws = map entry_of (filter (waits_in i) ws)
 
 abbrev pub context_of : Ctx → List Entry → Context
 context_of c es =
@@ -36,12 +35,6 @@ context_of c es =
 abbrev pub contexts_in : List Ctx → List WaitingEntry → List Context
 contexts_in [] ws = []
 contexts_in (c ∷ cs) ws = context_of c (entries_of (length cs) ws) ∷ contexts_in cs ws
-
-abbrev pub found_in : List ℕ → EntryKind → Option Label → List Ctx → Option ℕ
-found_in text k l [] = None
-found_in text k l (c ∷ cs) =
-    cond c.flags.function None
-    (cond (has_flag k c.flags && label_matches text l c.label) (Some (length cs)) (found_in text k l cs))
 
 abbrev pub jump_of : EntryKind → Ctx → Option ℕ
 jump_of Break c = c.break_jmp
@@ -61,11 +54,11 @@ abbrev pub all_drawn : ℕ → Ctx → List WaitingEntry → GraphState → Grap
 all_drawn i c [] g = g
 all_drawn i c (w ∷ ws) g = all_drawn i c ws (one_drawn i c w g)
 
-abbrev pub draws : ℕ → Ctx → WaitingEntry → ℕ
-draws i c w = cond (waits_in i w) (cond (is_some (jump_of w.kind c)) 1 0) 0
+abbrev pub draws : ℕ → Ctx → WaitingEntry → Bool
+draws i c w = waits_in i w && is_some (jump_of w.kind c)
 
-abbrev pub lacks : ℕ → Ctx → WaitingEntry → ℕ
-lacks i c w = cond (waits_in i w) (cond (is_some (jump_of w.kind c)) 0 1) 0
+abbrev pub lacks : ℕ → Ctx → WaitingEntry → Bool
+lacks i c w = waits_in i w && not (is_some (jump_of w.kind c))
 
 -- the context c of the number i is the topmost of the stack cs
 pub record IsTop (cs : List Ctx) (ws : List WaitingEntry) (i : ℕ) (c : Ctx) : Type 0 where
@@ -78,7 +71,7 @@ TopIs cs ws None = contexts_in (reverse cs) ws ≡ []
 TopIs cs ws (Some t) = IsTop cs ws t.number t.ctx
 
 abbrev pub LabelsFit : List ℕ → List Ctx → Type 0
-LabelsFit text cs = (k : ℕ) (x : Ctx) → k < length cs → label_fits text (slice_index_or cs k x).label ≡ true
+LabelsFit text cs = All (λ c. label_fits text c.label ≡ true) cs
 
 abbrev pub above_block : WaitingEntry → ℕ
 above_block w = suc w.block

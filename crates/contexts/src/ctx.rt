@@ -36,37 +36,24 @@ impl Ctx {
         }
     }
 
-    // The same context with the target of a kind marked.
-    pub fn with_target(self, kind: EntryKind, target: BlockNodeId) -> Ctx
-        ensures { result ≡ with_jump kind target self }
+    // Marks the target of a kind.
+    pub fn set_target(&mut self, kind: EntryKind, target: BlockNodeId)
+        ensures { self.new ≡ with_jump kind target self.old }
     {
         match kind {
-            EntryKind::Break => Ctx {
-                break_jmp: Some(target),
-                ..self
-            },
-            EntryKind::Continue => Ctx {
-                continue_jmp: Some(target),
-                ..self
-            },
+            EntryKind::Break => self.break_jmp = Some(target),
+            EntryKind::Continue => self.continue_jmp = Some(target),
         }
     }
 
-    // The same context with the flag of a kind set.
-    pub fn allowing(self, kind: EntryKind) -> Ctx
-        ensures { result ≡ allowing kind self }
+    // Sets the flag of a kind.
+    pub fn allow(&mut self, kind: EntryKind)
+        ensures { self.new ≡ allowing kind self.old }
     {
-        let flags = match kind {
-            EntryKind::Break => CtxFlags {
-                breaks: true,
-                ..self.flags
-            },
-            EntryKind::Continue => CtxFlags {
-                continues: true,
-                ..self.flags
-            },
-        };
-        Ctx { flags, ..self }
+        match kind {
+            EntryKind::Break => self.flags.breaks = true,
+            EntryKind::Continue => self.flags.continues = true,
+        }
     }
 }
 

@@ -20,9 +20,7 @@ use Rattle.graph.specs.Meaning.{Meaning}
 use Rattle.kinds.specs.Numbers.{number_of}
 use Rattle.kinds.specs.declared.block.Instruction.{Instruction}
 use Rattle.kinds.specs.declared.edge.Edge.{Edge}
-use Rattle.store.specs.Edges.{listed}
-use Rattle.store.specs.Paths.{any, leads, targets}
-use Rattle.store.specs.declared.direction.Direction.TheVariants.{Outgoing}
+use Rattle.store.specs.Paths.{as_graph}
 use Rattle.walk.specs.Cycle.{cyclic}
 use Rattle.walk.specs.Reach.{reachable}
 use Rattle.walk.specs.Walk.{Visitor, walk}
@@ -48,15 +46,6 @@ contents k b = instructions_in b k.blocks.graph.instructions
 
 abbrev pub is_marked : Book → ℕ → Bool
 is_marked k b = slice_index_or k.blocks.graph.marks b false
-
--- n blocks and the edges es as a graph: a block lists the targets of its outgoing edges, newest first; a step is permitted where one of
--- the edges from the block to that neighbour is passable
-abbrev pub as_graph : ℕ → List Edge → Meaning
-as_graph n es = record {
-  size = n;
-  neighbors = λ a. targets (listed Outgoing a es);
-  permitted = λ a b. any (leads b) (listed Outgoing a es);
-}
 
 abbrev pub graph_in : Book → Meaning
 graph_in k = as_graph (blocks_in k) (edges_in k)

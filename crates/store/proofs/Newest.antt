@@ -2,19 +2,13 @@
 use Rattle.std.proofs.Common.{◌≡◌, ℕ, suc, ◌+◌, ◌<◌, ◌≤◌, true, false, cond, eqb, ◌≢◌, List, [], ◌∷◌, ◌++◌, reverse, length, get_or, take, is_some, Some, None, filter, Option, sym, refl, ap, ◌∙◌, subst, inl, inr, append_assoc, add-zero, add-suc, suc-add, zero-add, add-one, arith}
 use Rattle.std.proofs.lemmas.List.Elements.{filter-append}
 use Rattle.std.proofs.lemmas.List.{append-nil, reverse-append, length_push, get_or_append_left, get_or_push, take-append-le, take_at, take_more, take-take, length-take-le, get_or-take}
-use Rattle.std.proofs.lemmas.Option.{slice_get-get_or}
+use Rattle.std.proofs.lemmas.Option.{slice_get-get_or, none-some, same_Some}
 use Rattle.std.proofs.lemmas.Bool.{cases_eq}
 use Rattle.std.proofs.lemmas.Bool.Decides.{nat_tests}
+use Rattle.std.specs.List.{All}
 use Rattle.kinds.specs.declared.edge.Edge.{Edge}
 use Rattle.store.specs.Edges.{block_at, listed, newest, newest_from, has_edge, nonempty, rest, beside, HeadOf}
-use Rattle.store.specs.Links.{code}
 use Rattle.store.specs.declared.direction.Direction.{Direction}
-
-pub code_same : (o p : Option ℕ) → code o ≡ code p → o ≡ p
-code_same None None e = refl
-code_same None (Some k) e = absurd (omega arith)
-code_same (Some j) None e = absurd (omega arith)
-code_same (Some j) (Some k) e = let z : j ≡ k = omega arith in ap Some z
 
 newest_from_push : (d : Direction) (b i : ℕ) (o : Option ℕ) (es : List Edge) (e : Edge)
     → newest_from d b i o (es ++ e ∷ []) ≡ cond (eqb (block_at d e) b) (Some (i + length es)) (newest_from d b i o es)
@@ -37,7 +31,7 @@ unfolding newest
 newest_nil d b = refl
 
 newest_from_none : (d : Direction) (b i : ℕ) (o : Option ℕ) (es : List Edge)
-    → ((k : ℕ) (x : Edge) → k < length es → block_at d (get_or es k x) ≢ b) → newest_from d b i o es ≡ o
+    → All (λ e. block_at d e ≢ b) es → newest_from d b i o es ≡ o
 newest_from_none d b i o [] h = refl
 newest_from_none d b i o (e ∷ es) h =
     let ne : block_at d e ≢ b = h 0 e (omega arith) in
@@ -45,7 +39,7 @@ newest_from_none d b i o (e ∷ es) h =
     newest_from_none d b (suc i) (cond (eqb (block_at d e) b) (Some i) o) es (λ k x lt. h (suc k) x (omega arith)) ∙ off
 
 -- no edge is at b
-pub newest_none : (d : Direction) (b : ℕ) (es : List Edge) → ((k : ℕ) (x : Edge) → k < length es → block_at d (get_or es k x) ≢ b) → newest d b es ≡ None
+pub newest_none : (d : Direction) (b : ℕ) (es : List Edge) → All (λ e. block_at d e ≢ b) es → newest d b es ≡ None
 unfolding newest
 newest_none d b es h = newest_from_none d b 0 None es h
 
@@ -67,15 +61,12 @@ listed_else d b es e h =
     let t : eqb (block_at d e) b ≡ false = grind (arith, nat_tests) in
     ap reverse (filter-append (λ x. eqb (block_at d x) b) es (e ∷ [])) ∙ (rw t (ap reverse (append-nil (filter (λ x. eqb (block_at d x) b) es))))
 
-differ : {X : Type 0} (o : Option ℕ) (k : ℕ) → o ≡ None → o ≡ Some k → X
-differ o k e f = absurd (let z : ◌≡◌ {A = ℕ} 0 1 = cc in omega arith)
-
 listed_none : (d : Direction) (b : ℕ) (es : List Edge) → newest d b es ≡ None → listed d b es ≡ []
 listed_none d b es =
     let P : List Edge → Type 0 = λ xs. newest d b xs ≡ None → listed d b xs ≡ [] in
     by_pushes P (λ _. refl)
     (λ xs x ih z. elim (cases_eq (block_at d x) b) [
-      | inl h ↦ differ _ _ z (newest_here d b xs x h)
+      | inl h ↦ absurd (none-some _ (sym z ∙ newest_here d b xs x h))
       | inr h ↦ (listed_else d b xs x h ∙ ih (sym (newest_else d b xs x h) ∙ z))
     ]) es
 
@@ -85,15 +76,12 @@ pub record Heads (d : Direction) (b : ℕ) (es : List Edge) (k : ℕ) (x : Edge)
   pub here : block_at d (get_or es k x) ≡ b
   pub list : listed d b es ≡ get_or es k x ∷ listed d b (take k es)
 
-some_same : (j k : ℕ) → Some j ≡ Some k → j ≡ k
-some_same j k e = cc
-
 pub listed_some : (d : Direction) (b : ℕ) (es : List Edge) (k : ℕ) (x : Edge) → newest d b es ≡ Some k → Heads d b es k x
 listed_some d b es k x =
     let P : List Edge → Type 0 = λ xs. newest d b xs ≡ Some k → Heads d b xs k x in
-    by_pushes P (λ z. differ _ _ (newest_nil d b) z)
+    by_pushes P (λ z. absurd (none-some k (sym (newest_nil d b) ∙ z)))
     (λ xs y ih z. elim (cases_eq (block_at d y) b) [
-      | inl h ↦ (let e : length xs ≡ k = some_same _ _ (sym (newest_here d b xs y h) ∙ z) in
+      | inl h ↦ (let e : length xs ≡ k = same_Some _ _ (sym (newest_here d b xs y h) ∙ z) in
           let g = get_or_push xs y x k e in
           let t = take_at xs (y ∷ []) k e in
           record { known = omega (arith, length_push xs y); here = ap (block_at d) g ∙ h; list = listed_here d b xs y h ∙ (rw (g, t)) })

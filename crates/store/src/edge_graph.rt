@@ -1,7 +1,7 @@
 // An edge store as a graph: a block lists the targets of its outgoing edges, newest first.
 ghost use Rattle.std.specs.Prelude.{◌≡◌};
 ghost use Rattle.store.specs.Edges.{rest};
-ghost use Rattle.store.specs.Paths.{meaning_of, passable, targets};
+ghost use Rattle.store.specs.Paths.{leads, meaning_of, targets};
 ghost use Rattle.store.specs.Soundness.{store_sound, store_within};
 ghost use Rattle.store.specs.View.{edges_of};
 ghost use Rattle.store.specs.declared.direction.Direction.TheVariants.{Outgoing};
@@ -9,13 +9,14 @@ ghost use Rattle.store.specs.declared.direction.Direction.TheVariants.{Outgoing}
 use crate::direction::Direction;
 use crate::edge_store::EdgeStore;
 use graph::graph::{Graph, Step};
-use kinds::edge::EdgeType;
+use kinds::block::BlockNodeId;
+use kinds::edge::{Edge, EdgeType};
 
-// Whether a step along an edge of that kind is permitted. O(1).
-fn is_passable(kind: EdgeType) -> bool
-    ensures { result ≡ passable kind }
+// Whether an edge leads to the block, and its kind permits a step along it. O(1).
+fn leads(edge: Edge, block: BlockNodeId) -> bool
+    ensures { result ≡ leads block edge }
 {
-    !matches!(kind, EdgeType::NewFunction | EdgeType::Unreachable)
+    edge.target == block && !matches!(edge.kind, EdgeType::NewFunction | EdgeType::Unreachable)
 }
 
 impl Graph for EdgeStore {
@@ -39,23 +40,15 @@ impl Graph for EdgeStore {
     }
 
     fn next(&self, place: Option<usize>) -> Option<Step<Option<usize>>> {
-        match self.next_edge(place, Direction::Outgoing) {
-            Some(step) => Some(Step {
-                block: step.edge.target,
-                next: step.next,
-            }),
-            None => None,
-        }
+        let step = self.next_edge(place, Direction::Outgoing)?;
+        Some(Step {
+            block: step.edge.target,
+            next: step.next,
+        })
     }
 
     fn permitted(&self, from: u32, to: u32) -> bool {
-        let mut place = self.first_edge(from, Direction::Outgoing);
-        while let Some(step) = self.next_edge(place, Direction::Outgoing) {
-            if step.edge.target == to && is_passable(step.edge.kind) {
-                return true;
-            }
-            place = step.next;
-        }
-        false
+        self.edges(from, Direction::Outgoing)
+            .any(|edge| leads(edge, to))
     }
 }

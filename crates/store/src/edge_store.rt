@@ -1,7 +1,7 @@
 // The store's two tables, and what ties them together.
 ghost use Rattle.std.specs.Prelude.{◌≤◌, vec_len, vec_capacity};
 ghost use Rattle.store.specs.Links.{Firsts, Nexts, Within, edges_in};
-ghost use Rattle.store.specs.declared.direction.Direction.TheVariants.{Outgoing, Incoming};
+ghost use Rattle.store.specs.declared.direction.Direction.{Direction};
 
 use crate::link::{Link, Node};
 
@@ -14,11 +14,8 @@ pub struct EdgeStore {
     links: Vec<Link>,
     ghost nodes_fit: { 512 ≤ vec_capacity nodes },
     ghost links_fit: { 2048 ≤ vec_capacity links },
-    ghost firsts_outgoing: { Firsts Outgoing nodes.items (edges_in links.items) },
-    ghost firsts_incoming: { Firsts Incoming nodes.items (edges_in links.items) },
-    ghost nexts_outgoing: { Nexts Outgoing links.items },
-    ghost nexts_incoming: { Nexts Incoming links.items },
-    ghost sources: { Within Outgoing nodes.items links.items },
-    ghost targets: { Within Incoming nodes.items links.items },
+    ghost firsts: { (d : Direction) → Firsts d nodes.items (edges_in links.items) },
+    ghost nexts: { (d : Direction) → Nexts d links.items },
+    ghost within: { (d : Direction) → Within d nodes.items links.items },
     ghost few_nodes: { vec_len nodes ≤ 512 },
 }

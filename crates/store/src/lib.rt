@@ -4,4 +4,5 @@
 pub mod direction;
 pub mod edge_graph;
 pub mod edge_store;
+pub mod edges;
 mod link;

@@ -88,7 +88,7 @@ impl BlockBuilder {
                 node_id: None,
             },
         );
-        self.graph.mark_as_unreachable(block);
+        self.graph.set_unreachable(block, true);
         self.graph.add_edge(old, block, EdgeType::Unreachable);
     }
 

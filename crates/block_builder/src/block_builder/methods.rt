@@ -114,7 +114,7 @@ impl BlockBuilder {
         ensures { Performs (state.block_refusal block) (state.marked block false) nothing (state_of self.old) (state_of self.new) result }
     {
         self.check_block(block)?;
-        self.graph.mark_as_reachable(block);
+        self.graph.set_unreachable(block, false);
         Ok(())
     }
 
@@ -123,7 +123,7 @@ impl BlockBuilder {
         ensures { Performs (state.block_refusal block) (state.marked block true) nothing (state_of self.old) (state_of self.new) result }
     {
         self.check_block(block)?;
-        self.graph.mark_as_unreachable(block);
+        self.graph.set_unreachable(block, true);
         Ok(())
     }
 

@@ -1,5 +1,5 @@
 // One block or one instruction at a time; the others stay as they are. All of it is for the layers above.
-ghost use Rattle.std.specs.Prelude.{◌≡◌, ◌+◌, ◌<◌, true, false, [], ◌∷◌, ◌++◌, length, IfOk, slice_index_or, slice_set};
+ghost use Rattle.std.specs.Prelude.{◌≡◌, ◌+◌, ◌<◌, false, [], ◌∷◌, ◌++◌, length, IfOk, slice_index_or, slice_set};
 ghost use Rattle.std.specs.List.{slice_get};
 ghost use Rattle.blocks.specs.Blocks.{holds_unreachable, instructions_in};
 ghost use Rattle.blocks.specs.TablesView.{marks_of, instructions_of};
@@ -8,22 +8,6 @@ use super::BasicBlocks;
 use crate::basic_block::{BasicBlock, BlockInstruction};
 use kinds::block::{BlockNodeId, Instruction, InstructionKind};
 use std::alloc::{AllocError, Global};
-
-// The instruction of that index among those of a block.
-fn nth_in(items: &[BlockInstruction], block: BlockNodeId, index: usize) -> Option<Instruction>
-    ensures { result ≡ slice_get (instructions_in block items.now) index }
-{
-    let mut left = index;
-    for item in items {
-        if item.block == block {
-            if left == 0 {
-                return Some(item.instruction);
-            }
-            left -= 1;
-        }
-    }
-    None
-}
 
 impl BasicBlocks {
     // Tables with no blocks and no instructions.
@@ -86,25 +70,20 @@ impl BasicBlocks {
     pub fn instruction(&self, block: BlockNodeId, index: usize) -> Option<Instruction>
         ensures { result ≡ slice_get (instructions_in block (instructions_of self.now)) index }
     {
-        nth_in(self.instructions.as_slice(), block, index)
+        self.instructions
+            .iter()
+            .filter(|item| item.block == block)
+            .map(|item| item.instruction)
+            .nth(index)
     }
 
-    // Marks one block reachable. O(1).
-    pub fn mark_as_reachable(&mut self, block: BlockNodeId)
+    // Marks one block unreachable or reachable. O(1).
+    pub fn set_unreachable(&mut self, block: BlockNodeId, unreachable: bool)
         requires { block < length (marks_of self.old) }
-        ensures marks { marks_of self.new ≡ slice_set (marks_of self.old) block false }
+        ensures marks { marks_of self.new ≡ slice_set (marks_of self.old) block unreachable }
         ensures instructions { instructions_of self.new ≡ instructions_of self.old }
     {
-        self.items[block as usize].unreachable = false;
-    }
-
-    // Marks one block unreachable. O(1).
-    pub fn mark_as_unreachable(&mut self, block: BlockNodeId)
-        requires { block < length (marks_of self.old) }
-        ensures marks { marks_of self.new ≡ slice_set (marks_of self.old) block true }
-        ensures instructions { instructions_of self.new ≡ instructions_of self.old }
-    {
-        self.items[block as usize].unreachable = true;
+        self.items[block as usize].unreachable = unreachable;
     }
 
     // One instruction more in a block, behind those it has. O(1).
@@ -117,7 +96,7 @@ impl BasicBlocks {
     {
         self.instructions
             .push_reserved(BlockInstruction { block, instruction });
-        if let InstructionKind::Unreachable = instruction.kind {
+        if instruction.kind == InstructionKind::Unreachable {
             self.items[block as usize].holds_unreachable = true;
         }
     }

@@ -1,5 +1,5 @@
 // What the builder does to its graph, each call with its room tried before. All of it is for the layers above.
-ghost use Rattle.std.specs.Prelude.{◌≡◌, ◌<◌, true, false, length, IfOk, slice_index_or};
+ghost use Rattle.std.specs.Prelude.{◌≡◌, ◌<◌, false, length, IfOk, slice_index_or};
 ghost use Rattle.std.specs.List.{slice_get};
 ghost use Rattle.store.specs.View.{nodes_of, edges_of};
 ghost use Rattle.blocks.specs.Blocks.{Grown, instructions_in, empty, edge_added, target_marked, block_added, instruction_added, mark_set};
@@ -92,22 +92,13 @@ impl BlockGraph {
         self.basic_blocks.push_instruction_to(block, instruction);
     }
 
-    // Marks one block reachable. O(1).
-    pub fn mark_as_reachable(&mut self, block: BlockNodeId)
+    // Marks one block unreachable or reachable. O(1).
+    pub fn set_unreachable(&mut self, block: BlockNodeId, unreachable: bool)
         requires { block < length (graph_of self.old).marks }
         ensures sizes { Grown 0 0 0 (graph_of self.old) (graph_of self.new) }
-        ensures graph { graph_of self.new ≡ mark_set block false (graph_of self.old) }
+        ensures graph { graph_of self.new ≡ mark_set block unreachable (graph_of self.old) }
     {
-        self.basic_blocks.mark_as_reachable(block);
-    }
-
-    // Marks one block unreachable. O(1).
-    pub fn mark_as_unreachable(&mut self, block: BlockNodeId)
-        requires { block < length (graph_of self.old).marks }
-        ensures sizes { Grown 0 0 0 (graph_of self.old) (graph_of self.new) }
-        ensures graph { graph_of self.new ≡ mark_set block true (graph_of self.old) }
-    {
-        self.basic_blocks.mark_as_unreachable(block);
+        self.basic_blocks.set_unreachable(block, unreachable);
     }
 
     // Sets the mark of the target of an edge that is to come.
@@ -118,16 +109,16 @@ impl BlockGraph {
         ensures graph { graph_of self.new ≡ target_marked a b kind (graph_of self.old) }
     {
         match kind {
-            EdgeType::NewFunction => self.basic_blocks.mark_as_reachable(b),
+            EdgeType::NewFunction => self.basic_blocks.set_unreachable(b, false),
             EdgeType::Unreachable if self.store.has_incoming(b) => {}
-            EdgeType::Unreachable => self.basic_blocks.mark_as_unreachable(b),
+            EdgeType::Unreachable => self.basic_blocks.set_unreachable(b, true),
             _ if self.basic_blocks.is_unreachable(a) => {
                 if !self.store.has_incoming(b) {
-                    self.basic_blocks.mark_as_unreachable(b)
+                    self.basic_blocks.set_unreachable(b, true)
                 }
             }
             _ if self.basic_blocks.holds_unreachable(b) => {}
-            _ => self.basic_blocks.mark_as_reachable(b),
+            _ => self.basic_blocks.set_unreachable(b, false),
         }
     }
 

@@ -1,80 +1,58 @@
 // Loops over the entries of all contexts.
-ghost use Rattle.std.specs.Prelude.{◌≡◌, ◌+◌, ◌<◌, ◌≤◌, not, length, vec_capacity, sum_by, filter};
+ghost use Rattle.std.specs.Prelude.{◌≡◌, ◌+◌, ◌<◌, ◌≤◌, cond, not, length, vec_capacity, count_by, filter};
 ghost use Rattle.blocks.specs.Blocks.{Grown};
 ghost use Rattle.blocks.specs.Highest.{highest};
 ghost use Rattle.blocks.specs.View.{graph_of};
 ghost use Rattle.contexts.specs.Tables.{waits_in, draws, lacks, one_drawn, all_drawn, above_block};
 ghost use Rattle.store.specs.Links.{code};
 
-use crate::ctx::{Ctx, WaitingEntry};
+use crate::ctx::{Top, WaitingEntry};
 use blocks::block_graph::BlockGraph;
 use kinds::edge::EdgeType;
 
-// 1 for an entry of the context that has a target, else 0.
-fn with_target(entry: WaitingEntry, context: usize, ctx: Ctx) -> usize
-    ensures value { result ≡ draws context ctx entry }
-    ensures bound { result ≤ 1 }
-{
-    if entry.context == context && ctx.target(entry.kind).is_some() {
-        1
-    } else {
-        0
-    }
-}
-
-// 1 for an entry of the context that has none, else 0.
-fn without_target(entry: WaitingEntry, context: usize, ctx: Ctx) -> usize
-    ensures value { result ≡ lacks context ctx entry }
-    ensures bound { result ≤ 1 }
-{
-    if entry.context == context && ctx.target(entry.kind).is_none() {
-        1
-    } else {
-        0
-    }
-}
-
 // How many entries of the context have a target, and how many have none.
-pub(super) fn counts(waiting: &[WaitingEntry], context: usize, ctx: Ctx) -> (usize, usize)
-    ensures drawn { result.0 ≡ sum_by (draws context ctx) waiting.now }
-    ensures untargeted { result.1 ≡ sum_by (lacks context ctx) waiting.now }
+pub(super) fn counts(waiting: &[WaitingEntry], top: Top) -> (usize, usize)
+    ensures drawn { result.0 ≡ count_by (draws top.number top.ctx) waiting.now }
+    ensures untargeted { result.1 ≡ count_by (lacks top.number top.ctx) waiting.now }
 {
-    let mut drawn = 0;
-    let mut untargeted = 0;
-    for entry in waiting {
-        drawn += with_target(*entry, context, ctx);
-        untargeted += without_target(*entry, context, ctx);
-    }
+    let drawn = waiting
+        .iter()
+        .filter(|entry| entry.context == top.number && top.ctx.target(entry.kind).is_some())
+        .count();
+    let untargeted = waiting
+        .iter()
+        .filter(|entry| entry.context == top.number && top.ctx.target(entry.kind).is_none())
+        .count();
     (drawn, untargeted)
 }
 
 // Draws the Jump edge of an entry of the context, if it has a target.
-fn draw_one(graph: &mut BlockGraph, entry: WaitingEntry, context: usize, ctx: Ctx)
+fn draw_one(graph: &mut BlockGraph, entry: WaitingEntry, top: Top)
     requires block { entry.block < length (graph_of graph.old).marks }
-    requires breaks { code ctx.break_jmp ≤ length (graph_of graph.old).marks }
-    requires continues { code ctx.continue_jmp ≤ length (graph_of graph.old).marks }
-    requires room { length (graph_of graph.old).edges + draws context ctx entry ≤ 2048 }
-    ensures sizes { Grown 0 (draws context ctx entry) 0 (graph_of graph.old) (graph_of graph.new) }
-    ensures graph { graph_of graph.new ≡ one_drawn context ctx entry (graph_of graph.old) }
+    requires breaks { code top.ctx.break_jmp ≤ length (graph_of graph.old).marks }
+    requires continues { code top.ctx.continue_jmp ≤ length (graph_of graph.old).marks }
+    requires room { length (graph_of graph.old).edges + cond (draws top.number top.ctx entry) 1 0 ≤ 2048 }
+    ensures sizes { Grown 0 (cond (draws top.number top.ctx entry) 1 0) 0 (graph_of graph.old) (graph_of graph.new) }
+    ensures graph { graph_of graph.new ≡ one_drawn top.number top.ctx entry (graph_of graph.old) }
 {
-    if entry.context == context {
-        if let Some(target) = ctx.target(entry.kind) {
+    if entry.context == top.number {
+        if let Some(target) = top.ctx.target(entry.kind) {
             graph.add_edge(entry.block, target, EdgeType::Jump);
         }
     }
 }
 
 // Draws the Jump edges of the entries of the context, in their order.
-pub(super) fn draw(graph: &mut BlockGraph, waiting: &[WaitingEntry], context: usize, ctx: Ctx)
+pub(super) fn draw(graph: &mut BlockGraph, waiting: &[WaitingEntry], top: Top)
     requires blocks { highest above_block waiting.now ≤ length (graph_of graph.old).marks }
-    requires breaks { code ctx.break_jmp ≤ length (graph_of graph.old).marks }
-    requires continues { code ctx.continue_jmp ≤ length (graph_of graph.old).marks }
-    requires room { length (graph_of graph.old).edges + sum_by (draws context ctx) waiting.now ≤ 2048 }
-    ensures sizes { Grown 0 (sum_by (draws context ctx) waiting.now) 0 (graph_of graph.old) (graph_of graph.new) }
-    ensures graph { graph_of graph.new ≡ all_drawn context ctx waiting.now (graph_of graph.old) }
+    requires breaks { code top.ctx.break_jmp ≤ length (graph_of graph.old).marks }
+    requires continues { code top.ctx.continue_jmp ≤ length (graph_of graph.old).marks }
+    requires room { length (graph_of graph.old).edges + count_by (draws top.number top.ctx) waiting.now ≤ 2048 }
+    ensures sizes { Grown 0 (count_by (draws top.number top.ctx) waiting.now) 0 (graph_of graph.old) (graph_of graph.new) }
+    ensures graph { graph_of graph.new ≡ all_drawn top.number top.ctx waiting.now (graph_of graph.old) }
 {
     for entry in waiting {
-        draw_one(graph, *entry, context, ctx);
+        draw_one(graph, *entry, top);
     }
 }
 
@@ -83,13 +61,5 @@ pub(super) fn release(waiting: &mut Vec<WaitingEntry>, context: usize)
     ensures items { waiting.new.items ≡ filter (λ w. not (waits_in context w)) waiting.old.items }
     ensures capacity { vec_capacity waiting.new ≡ vec_capacity waiting.old }
 {
-    let mut kept_count = 0;
-    for i in 0..waiting.len() {
-        let entry = waiting[i];
-        if entry.context != context {
-            waiting[kept_count] = entry;
-            kept_count += 1;
-        }
-    }
-    waiting.truncate(kept_count);
+    waiting.retain(|entry| entry.context != context);
 }

@@ -1,8 +1,7 @@
 // One context at a time, by its number; the others stay as they are. All of it is for the layers above.
-ghost use Rattle.std.specs.Prelude.{◌≡◌, suc, ◌+◌, ◌<◌, ◌≤◌, max, true, [], ◌∷◌, length, IfOk};
-ghost use Rattle.blocks.specs.Highest.{highest};
-ghost use Rattle.contexts.specs.Contexts.{label_fits, target_at, with_target, with_entry, with_flag, opened, changed_at, waiting_count, block_bound};
-ghost use Rattle.contexts.specs.View.{contexts_of};
+ghost use Rattle.std.specs.Prelude.{◌≡◌, suc, ◌<◌, true, [], ◌∷◌, length, IfOk};
+ghost use Rattle.contexts.specs.Contexts.{label_fits, target_at, with_target, with_entry, with_flag, opened, changed_at, waiting_count};
+ghost use Rattle.contexts.specs.View.{Changed, contexts_of};
 
 use super::CtxStack;
 use crate::ctx::{Ctx, WaitingEntry};
@@ -43,10 +42,7 @@ impl<'a> CtxStack<'a> {
     pub fn push(&mut self, flags: CtxFlags, label: Option<Label>)
         requires room { length (contexts_of self.old) < 64 }
         requires label { label_fits self.old.text.now label ≡ true }
-        ensures text { self.new.text ≡ self.old.text }
-        ensures contexts { contexts_of self.new ≡ opened flags label ∷ contexts_of self.old }
-        ensures waiting { waiting_count (contexts_of self.new) ≡ waiting_count (contexts_of self.old) }
-        ensures blocks { highest block_bound (contexts_of self.new) ≤ highest block_bound (contexts_of self.old) }
+        ensures { Changed self.old self.new (opened flags label ∷ contexts_of self.old) 0 0 }
     {
         self.stack.push_reserved(Ctx {
             flags,
@@ -60,10 +56,7 @@ impl<'a> CtxStack<'a> {
     pub fn add_entry(&mut self, context: usize, kind: EntryKind, block: BlockNodeId)
         requires within { context < length (contexts_of self.old) }
         requires room { waiting_count (contexts_of self.old) < 512 }
-        ensures text { self.new.text ≡ self.old.text }
-        ensures contexts { contexts_of self.new ≡ changed_at (with_entry kind block) context (contexts_of self.old) }
-        ensures waiting { waiting_count (contexts_of self.new) ≡ waiting_count (contexts_of self.old) + 1 }
-        ensures blocks { highest block_bound (contexts_of self.new) ≤ max (highest block_bound (contexts_of self.old)) (suc block) }
+        ensures { Changed self.old self.new (changed_at (with_entry kind block) context (contexts_of self.old)) 1 (suc block) }
     {
         self.waiting.push_reserved(WaitingEntry {
             context,
@@ -83,24 +76,16 @@ impl<'a> CtxStack<'a> {
     // Marks the target of a kind in the context of a number. O(1).
     pub fn mark(&mut self, context: usize, kind: EntryKind, target: BlockNodeId)
         requires { context < length (contexts_of self.old) }
-        ensures text { self.new.text ≡ self.old.text }
-        ensures contexts { contexts_of self.new ≡ changed_at (with_target kind target) context (contexts_of self.old) }
-        ensures waiting { waiting_count (contexts_of self.new) ≡ waiting_count (contexts_of self.old) }
-        ensures blocks { highest block_bound (contexts_of self.new) ≤ max (highest block_bound (contexts_of self.old)) (suc target) }
+        ensures { Changed self.old self.new (changed_at (with_target kind target) context (contexts_of self.old)) 0 (suc target) }
     {
-        let ctx = self.stack[context];
-        self.stack[context] = ctx.with_target(kind, target);
+        self.stack[context].set_target(kind, target);
     }
 
     // Sets the flag of a kind in the context of a number. O(1).
     pub fn allow(&mut self, context: usize, kind: EntryKind)
         requires { context < length (contexts_of self.old) }
-        ensures text { self.new.text ≡ self.old.text }
-        ensures contexts { contexts_of self.new ≡ changed_at (with_flag kind) context (contexts_of self.old) }
-        ensures waiting { waiting_count (contexts_of self.new) ≡ waiting_count (contexts_of self.old) }
-        ensures blocks { highest block_bound (contexts_of self.new) ≤ highest block_bound (contexts_of self.old) }
+        ensures { Changed self.old self.new (changed_at (with_flag kind) context (contexts_of self.old)) 0 0 }
     {
-        let ctx = self.stack[context];
-        self.stack[context] = ctx.allowing(kind);
+        self.stack[context].allow(kind);
     }
 }

@@ -19,13 +19,10 @@ impl<'a> CtxStack<'a> {
     fn last(&self) -> Option<Top>
         ensures { TopIs self.now.stack.items self.now.waiting.items result }
     {
-        let n = self.stack.len();
-        if n == 0 {
-            return None;
-        }
+        let ctx = *self.stack.last()?;
         Some(Top {
-            number: n - 1,
-            ctx: self.stack[n - 1],
+            number: self.stack.len() - 1,
+            ctx,
         })
     }
 
@@ -34,20 +31,14 @@ impl<'a> CtxStack<'a> {
         ensures value { result ≡ top_number (contexts_of self.now) }
         ensures within { MatchOption result (⊥ → ⊥) (λ i. i < length (contexts_of self.now)) }
     {
-        match self.last() {
-            Some(top) => Some(top.number),
-            None => None,
-        }
+        self.last().map(|top| top.number)
     }
 
     // The flags of the topmost context, if one is open. O(1).
     pub fn top_flags(&self) -> Option<CtxFlags>
         ensures { result ≡ top_flags (contexts_of self.now) }
     {
-        match self.last() {
-            Some(top) => Some(top.ctx.flags),
-            None => None,
-        }
+        self.last().map(|top| top.ctx.flags)
     }
 
     // The continue target of the topmost context, if one is open and it is marked. O(1).
@@ -55,10 +46,7 @@ impl<'a> CtxStack<'a> {
         ensures value { result ≡ top_continue (contexts_of self.now) }
         ensures known { code result ≤ highest block_bound (contexts_of self.now) }
     {
-        match self.last() {
-            Some(top) => top.ctx.continue_jmp,
-            None => None,
-        }
+        self.last()?.ctx.continue_jmp
     }
 
     // The number of the topmost context, if it is labelled and has no continue target. O(1).
@@ -66,14 +54,8 @@ impl<'a> CtxStack<'a> {
         ensures value { result ≡ upper_label (contexts_of self.now) }
         ensures within { MatchOption result (⊥ → ⊥) (λ i. i < length (contexts_of self.now)) }
     {
-        let Some(top) = self.last() else {
-            return None;
-        };
-        if top.lacks_continue() {
-            Some(top.number)
-        } else {
-            None
-        }
+        let top = self.last()?;
+        top.lacks_continue().then_some(top.number)
     }
 
     // How many entries of the topmost context have a target, and how many have none; none with no context open. O(waiting entries).
@@ -81,11 +63,8 @@ impl<'a> CtxStack<'a> {
         ensures value { result ≡ resolve_counts (contexts_of self.now) }
         ensures waiting { MatchOption result (⊥ → ⊥) (λ p. p.0 + p.1 + waiting_count (below_top (contexts_of self.now)) ≡ waiting_count (contexts_of self.now)) }
     {
-        let Some(top) = self.last() else {
-            return None;
-        };
-        let (drawn, untargeted) = entries::counts(self.waiting.as_slice(), top.number, top.ctx);
-        Some((drawn, untargeted))
+        let top = self.last()?;
+        Some(entries::counts(&self.waiting, top))
     }
 
     // Closes the topmost context, if one is open, and draws the Jump edges of its entries in their order. O(waiting entries).
@@ -102,7 +81,7 @@ impl<'a> CtxStack<'a> {
         let Some(top) = self.last() else {
             return;
         };
-        entries::draw(graph, self.waiting.as_slice(), top.number, top.ctx);
+        entries::draw(graph, &self.waiting, top);
         entries::release(&mut self.waiting, top.number);
         let _ = self.stack.pop();
     }

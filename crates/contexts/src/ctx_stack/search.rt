@@ -1,8 +1,6 @@
 // The search for the context of a break or a continue.
-ghost use Rattle.std.specs.Prelude.{◌≡◌, ◌+◌, ◌<◌, ◌≤◌, true, reverse, length, MatchOption};
-ghost use Rattle.std.specs.Str.{bytes_eq};
+ghost use Rattle.std.specs.Prelude.{◌≡◌, ◌+◌, ◌<◌, ◌≤◌, true, length, MatchOption};
 ghost use Rattle.contexts.specs.Contexts.{label_bytes, label_fits, label_matches, found};
-ghost use Rattle.contexts.specs.Tables.{found_in};
 ghost use Rattle.contexts.specs.View.{contexts_of};
 
 use super::CtxStack;
@@ -13,24 +11,17 @@ impl<'a> CtxStack<'a> {
     pub fn label_fits(&self, label: Option<Label>) -> bool
         ensures { result ≡ label_fits self.now.text.now label }
     {
-        match label {
-            None => true,
-            Some(l) => l.offset <= self.text.len() && l.length <= self.text.len() - l.offset,
-        }
+        label.is_none_or(|l| {
+            l.offset <= self.text.len() && l.length <= self.text.len() - l.offset
+        })
     }
 
-    // Whether two labels have the same bytes. O(length of the labels).
-    fn same_bytes(&self, l: Label, m: Label) -> bool
-        requires left { l.offset + l.length ≤ length self.now.text.now }
-        requires right { m.offset + m.length ≤ length self.now.text.now }
-        ensures { result ≡ bytes_eq (label_bytes self.now.text.now l) (label_bytes self.now.text.now m) }
+    // The bytes of a label. O(1).
+    fn bytes(&self, label: Label) -> &[u8]
+        requires { label.offset + label.length ≤ length self.now.text.now }
+        ensures { result.now ≡ label_bytes self.now.text.now label }
     {
-        let text = self.text;
-        let (i, j) = (l.offset, l.offset + l.length);
-        let (p, q) = (m.offset, m.offset + m.length);
-        let a = &text[i..j];
-        let b = &text[p..q];
-        a == b
+        &self.text[label.offset..label.offset + label.length]
     }
 
     // Whether a context's own label is the one sought, where one is sought.
@@ -42,28 +33,8 @@ impl<'a> CtxStack<'a> {
         match (label, own) {
             (None, _) => true,
             (Some(_), None) => false,
-            (Some(l), Some(m)) => self.same_bytes(l, m),
+            (Some(l), Some(m)) => self.bytes(l) == self.bytes(m),
         }
-    }
-
-    // The number of the first context down the stack that has the kind's flag and the label, none from the first function on.
-    fn in_context(&self, kind: EntryKind, label: Option<Label>) -> Option<usize>
-        requires { label_fits self.now.text.now label ≡ true }
-        ensures value { result ≡ found_in self.now.text.now kind label (reverse self.now.stack.items) }
-        ensures within { MatchOption result (⊥ → ⊥) (λ i. i < length self.now.stack.items) }
-    {
-        let mut i = self.stack.len();
-        while i > 0 {
-            i -= 1;
-            let ctx = self.stack[i];
-            if ctx.flags.function {
-                return None;
-            }
-            if ctx.allows(kind) && self.is(label, ctx.label) {
-                return Some(i);
-            }
-        }
-        None
     }
 
     // The number of the context that takes an entry of this kind by this label, if there is one. O(open contexts + their labels' bytes).
@@ -72,6 +43,14 @@ impl<'a> CtxStack<'a> {
         ensures value { result ≡ found self.now.text.now kind label (contexts_of self.now) }
         ensures within { MatchOption result (⊥ → ⊥) (λ i. i < length (contexts_of self.now)) }
     {
-        self.in_context(kind, label)
+        for (i, ctx) in self.stack.iter().enumerate().rev() {
+            if ctx.flags.function {
+                return None;
+            }
+            if ctx.allows(kind) && self.is(label, ctx.label) {
+                return Some(i);
+            }
+        }
+        None
     }
 }

@@ -1,12 +1,14 @@
 // What the layers above ask of an edge store. Those calls with a `requires` are for them alone: they have tried the limits before.
 ghost use Rattle.std.specs.Prelude.{◌≡◌, ◌+◌, ◌<◌, [], ◌∷◌, ◌++◌, length, IfOk, Some};
-ghost use Rattle.store.specs.Edges.{has_edge, HeadOf, StepsTo};
-ghost use Rattle.store.specs.Links.{first_of};
-ghost use Rattle.store.specs.View.{edges_of, nodes_of};
+ghost use Rattle.store.specs.Edges.{listed, has_edge, HeadOf, StepsTo};
+ghost use Rattle.store.specs.Links.{toward};
+ghost use Rattle.store.specs.View.{edges_of, nodes_of, left};
+ghost use Rattle.store.specs.declared.direction.Direction.{Direction};
 ghost use Rattle.store.specs.declared.direction.Direction.TheVariants.{Incoming};
 
 use super::EdgeStore;
-use crate::direction::Direction;
+use crate::direction::{Direction, PerDirection};
+use crate::edges::Edges;
 use crate::link::{Link, Node};
 use kinds::block::BlockNodeId;
 use kinds::edge::{Edge, EdgeType};
@@ -14,8 +16,10 @@ use std::alloc::{AllocError, Global};
 
 // A node with no edges.
 const ISOLATED: Node = Node {
-    first_outgoing: None,
-    first_incoming: None,
+    first: PerDirection {
+        outgoing: None,
+        incoming: None,
+    },
 };
 
 // An edge of a list, and the place that follows it.
@@ -69,67 +73,62 @@ impl EdgeStore {
         ensures count { length (edges_of self.new) ≡ length (edges_of self.old) + 1 }
     {
         let at = self.links.len();
-        let next_outgoing = self.nodes[source as usize].first_outgoing;
-        let next_incoming = self.nodes[target as usize].first_incoming;
+        let next = PerDirection {
+            outgoing: self.nodes[source as usize].first.outgoing,
+            incoming: self.nodes[target as usize].first.incoming,
+        };
         self.links.push_reserved(Link {
             edge: Edge {
                 source,
                 target,
                 kind,
             },
-            next_outgoing,
-            next_incoming,
+            next,
         });
-        self.nodes[source as usize].first_outgoing = Some(at);
-        self.nodes[target as usize].first_incoming = Some(at);
+        self.nodes[source as usize].first.outgoing = Some(at);
+        self.nodes[target as usize].first.incoming = Some(at);
     }
 
     // The node of a block; a number that is no block has one with no edges.
     fn node(&self, block: BlockNodeId) -> Node
-        ensures { (d : Direction) → HeadOf d block (edges_of self.now) (first_of d result) }
+        ensures { (d : Direction) → HeadOf d block (edges_of self.now) (toward d result.first) }
     {
-        if (block as usize) < self.nodes.len() {
-            self.nodes[block as usize]
-        } else {
-            ISOLATED
-        }
+        self.nodes.get(block as usize).copied().unwrap_or(ISOLATED)
     }
 
     // The place at the head of a block's edges in a direction, newest first; a number that is no block has none. O(1).
     pub fn first_edge(&self, block: BlockNodeId, direction: Direction) -> Option<usize>
         ensures { HeadOf direction block (edges_of self.now) result }
     {
-        self.node(block).first(direction)
+        self.node(block).first.get(direction)
     }
 
     // Whether an edge comes into the block. O(1).
     pub fn has_incoming(&self, block: BlockNodeId) -> bool
         ensures { result ≡ has_edge Incoming block (edges_of self.now) }
     {
-        self.node(block).first_incoming.is_some()
-    }
-
-    // The edge of a number and the place that follows in that direction, or none past the last edge.
-    fn step(&self, at: usize, direction: Direction) -> Option<EdgeStep>
-        ensures { StepsTo direction (edges_of self.now) (Some at) result }
-    {
-        if at >= self.links.len() {
-            return None;
-        }
-        let link = self.links[at];
-        Some(EdgeStep {
-            edge: link.edge,
-            next: link.next(direction),
-        })
+        self.node(block).first.incoming.is_some()
     }
 
     // The edge at a place and the place that follows in that direction, or none at the end of the list. O(1).
     pub fn next_edge(&self, place: Option<usize>, direction: Direction) -> Option<EdgeStep>
         ensures { StepsTo direction (edges_of self.now) place result }
     {
-        match place {
-            Some(at) => self.step(at, direction),
-            None => None,
+        let link = self.links.get(place?)?;
+        Some(EdgeStep {
+            edge: link.edge,
+            next: link.next.get(direction),
+        })
+    }
+
+    // The edges that leave a block or come into it, newest first; a number that is no block has none. O(1), and O(1) for each that is read.
+    pub fn edges(&self, block: BlockNodeId, direction: Direction) -> Edges<'_>
+        ensures { left result ≡ listed direction block (edges_of self.now) }
+    {
+        Edges {
+            store: self,
+            place: self.first_edge(block, direction),
+            direction,
         }
     }
 }

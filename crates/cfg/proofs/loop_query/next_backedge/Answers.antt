@@ -1,6 +1,6 @@
 use Rattle.std.proofs.Common.{rules}
 use Rattle.cfg.specs.Loops.{is_backedge}
-use Rattle.cfg.specs.Reads.{left}
+use Rattle.store.specs.View.{left}
 use Rattle.cfg.proofs.Finds.{found}
 use Rattle.cfg.proofs.loop_query.next_backedge.Goals as goal
 

@@ -1,14 +1,14 @@
-use Rattle.std.proofs.Common.{◌≡◌, suc, ◌-◌, ◌≤◌, List, reverse, length, take, sum_by, sym, refl, ap, ◌∙◌, subst, arith, rules}
+use Rattle.std.proofs.Common.{◌≡◌, true, ◌-◌, ◌≤◌, List, reverse, length, take, count_by, sym, refl, ap, ◌∙◌, subst, arith}
+use Rattle.std.proofs.lemmas.List.Elements.{All-take}
 use Rattle.std.proofs.lemmas.List.{length-reverse, length-take}
 use Rattle.blocks.specs.Highest.{highest}
 use Rattle.blocks.specs.View.{graph_of}
-use Rattle.contexts.specs.Contexts.{Context, drawn_count, resolve_counts, drawn_of, below_top, waiting_count, block_bound, top_drawn}
+use Rattle.contexts.specs.Contexts.{Context, label_fits, drawn_count, resolve_counts, drawn_of, below_top, waiting_count, block_bound, top_drawn}
 use Rattle.contexts.specs.Tables.{LabelsFit, context_of, entries_of, contexts_in, draws, all_drawn, above_block, above_context}
 use Rattle.contexts.specs.View.{contexts_of}
 use Rattle.contexts.specs.declared.ctx.Ctx.{Ctx}
 use Rattle.contexts.proofs.Bounds.{waiting_known}
 use Rattle.contexts.proofs.Drawing.{draws_own, draws_own_count}
-use Rattle.contexts.proofs.Labels.{labels_take}
 use Rattle.contexts.proofs.Views.{contexts_kept, numbers_kept}
 use Rattle.contexts.proofs.ctx_stack.CtxStack.resolve.Goals as goal
 
@@ -21,27 +21,30 @@ draw-requires c =
     let es = entries_of i ws in
     let k : Context = context_of x es in
     let e = c.in-Some.ensures.contexts in
-    let seen = c.as_slice.ensures.value in
+    let seen = c.deref.ensures.value in
     let bound = ap (highest block_bound) e in
     let known = waiting_known s.stack.items ws s.contexts_known in
     let v = ap (highest above_block) seen in
     let n = ap (λ z. drawn_of (resolve_counts z)) e in
-    let a : sum_by (draws i x) c.as_slice.result.now ≡ drawn_count k = ap (sum_by (draws i x)) seen ∙ draws_own_count i x es ws in
+    let a : count_by (draws i x) c.deref.result.now ≡ drawn_count k = ap (count_by (draws i x)) seen ∙ draws_own_count i x es ws in
     let p = c.requires in
     record { blocks = omega arith; breaks = omega arith; continues = omega arith; room = omega arith }
 
-pub invariant_of-self : goal.invariant_of-self
-invariant_of-self c =
+pub invariant_of-self-clause-labels_fit : goal.invariant_of-self-clause-labels_fit
+invariant_of-self-clause-labels_fit c =
     let s = c.args.self.now in
-    let xs = s.stack.items in
+    let L : List Ctx → Type 0 = λ y. LabelsFit s.text.now y in
+    subst L (sym c.pop.ensures.rest) (All-take (λ (y : Ctx). label_fits s.text.now y.label ≡ true) (s.stack.len - 1) s.stack.items s.labels_fit)
+
+pub invariant_of-self-clause-contexts_known : goal.invariant_of-self-clause-contexts_known
+invariant_of-self-clause-contexts_known c =
+    let s = c.args.self.now in
     let ws = s.waiting.items in
     let i = c.in-Some.top.number in
-    let t = c.in-Some.ensures in
-    let L : List Ctx → Type 0 = λ y. LabelsFit s.text.now y in
-    let popped = c.pop.ensures.rest in
-    let lim : highest above_context ws ≤ suc i = omega (arith, s.contexts_known, t.number) in
+    let t = c.in-Some.ensures.number in
     let kept = ap (highest above_context) c.release.ensures.items in
-    let known = numbers_kept i ws lim in record { stack_fits = search rules; waiting_fits = search rules; labels_fit = subst L (sym popped) (labels_take s.text.now xs _ s.labels_fit); contexts_known = omega (arith, kept, known, ap length popped, length-take (s.stack.len - 1) xs, s.stack.ok.0, t.number) }
+    let known = numbers_kept i ws (omega arith) in
+    omega (arith, ap length c.pop.ensures.rest, length-take (s.stack.len - 1) s.stack.items)
 
 pub returns : goal.returns
 returns c =
@@ -54,7 +57,7 @@ returns c =
     let es = entries_of i ws in
     let t = c.in-Some.ensures in
     let e = t.contexts in
-    let seen = c.as_slice.ensures.value in
+    let seen = c.deref.ensures.value in
     let left = c.release.new.waiting.items in
     let m : s.stack.len - 1 ≡ i = omega (arith, t.number, s.stack.ok.0) in
     let short : length (reverse (take i xs)) ≤ i = omega (arith, length-reverse (take i xs), length-take i xs) in
@@ -66,7 +69,7 @@ returns c =
     let f = ap (λ z. highest block_bound (below_top z)) e in
     let b = ap (highest block_bound) e in
     let d = c.draw.ensures.sizes in
-    let n = ap (sum_by (draws i x)) seen ∙ draws_own_count i x es ws ∙ sym (ap (λ z. drawn_of (resolve_counts z)) e) in
+    let n = ap (count_by (draws i x)) seen ∙ draws_own_count i x es ws ∙ sym (ap (λ z. drawn_of (resolve_counts z)) e) in
     record {
       text = refl;
       contexts = q;

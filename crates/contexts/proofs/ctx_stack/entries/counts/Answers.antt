@@ -1,34 +1,23 @@
-use Rattle.std.proofs.Common.{◌<◌, ◌≤◌, length, sum_by, ap, ◌∙◌, arith}
-use Rattle.std.proofs.lemmas.List.{take_all}
-use Rattle.std.proofs.lemmas.List.Sums.{sum_by_more}
+use Rattle.std.proofs.Common.{rules, ◌∙◌}
+use Rattle.std.proofs.lemmas.Iterator.{YieldsList-from_slice}
+use Rattle.std.proofs.lemmas.Iterator.Consumers.{YieldsList-at, YieldsList-from_filter, count_from_yields_List}
+use Rattle.std.proofs.lemmas.List.Sums.{length-filter}
 use Rattle.contexts.specs.Tables.{draws, lacks}
-use Rattle.contexts.specs.declared.ctx.WaitingEntry.{WaitingEntry}
-use Rattle.kinds.specs.declared.context.EntryKind.TheVariants.{Break}
 use Rattle.contexts.proofs.ctx_stack.entries.counts.Goals as goal
+use borrow.Author.Tests.{tests}
 
-abbrev D : WaitingEntry
-D = record { context = 0; kind = Break; block = 0 }
+pub returns-clause-drawn : goal.returns-clause-drawn
+returns-clause-drawn c =
+    count_from_yields_List c.filter.result c.count-drawn.result c.count-drawn.ensures.ran
+    (YieldsList-from_filter _ (draws c.args.top.number c.args.top.ctx)
+    (YieldsList-at c.filter.ensures.source (YieldsList-from_slice c.args.waiting.now (cc)))
+    c.filter.ensures.closure (λ x r q k. search (rules, tests)))
+    ∙ length-filter (draws c.args.top.number c.args.top.ctx) c.args.waiting.now
 
-pub loop-entry-preserved : goal.loop-entry-preserved
-loop-entry-preserved c =
-    let ws = c.args.waiting.now in
-    let i = c.loop-entry.entry-index in
-    let lt : i < length ws = omega arith in
-    let x = sum_by_more (draws c.args.context c.args.ctx) ws i D lt in
-    let y = sum_by_more (lacks c.args.context c.args.ctx) ws i D lt in
-    let h = c.loop-entry.invariant in (
-      omega (arith, h.0, x, c.with_target-drawn.ensures.value),
-      omega (arith, h.1, y, c.without_target-untargeted.ensures.value),
-      omega (arith, h.2, c.with_target-drawn.ensures.bound),
-      omega (arith, h.3, c.without_target-untargeted.ensures.bound),
-    )
-
-pub returns : goal.returns
-returns c =
-    let ws = c.args.waiting.now in
-    let le : length ws ≤ c.loop-entry.entry-index = omega arith in
-    let e = take_all c.loop-entry.entry-index ws le in
-    record {
-      drawn = c.loop-entry.invariant.0 ∙ ap (sum_by (draws c.args.context c.args.ctx)) e;
-      untargeted = c.loop-entry.invariant.1 ∙ ap (sum_by (lacks c.args.context c.args.ctx)) e;
-    }
+pub returns-clause-untargeted : goal.returns-clause-untargeted
+returns-clause-untargeted c =
+    count_from_yields_List c.filter-2.result c.count-untargeted.result c.count-untargeted.ensures.ran
+    (YieldsList-from_filter _ (lacks c.args.top.number c.args.top.ctx)
+    (YieldsList-at c.filter-2.ensures.source (YieldsList-from_slice c.args.waiting.now (cc)))
+    c.filter-2.ensures.closure (λ x r q k. search (rules, tests)))
+    ∙ length-filter (lacks c.args.top.number c.args.top.ctx) c.args.waiting.now

@@ -1,11 +1,10 @@
 // The edges of a block, one after another.
-ghost use Rattle.std.specs.Prelude.{length};
-ghost use Rattle.cfg.specs.Reads.{left, Gives};
-ghost use Rattle.std.specs.Iterator.{at_most};
+ghost use Rattle.std.specs.Iterator.{YieldsFirst, item_count};
+ghost use Rattle.store.specs.View.{left};
 
+use crate::direction::Direction;
+use crate::edge_store::EdgeStore;
 use kinds::edge::Edge;
-use store::direction::Direction;
-use store::edge_store::EdgeStore;
 
 // What is left of a block's edges in a direction, newest first.
 #[derive(Clone, Copy)]
@@ -18,9 +17,9 @@ pub struct Edges<'a> {
 impl Iterator for Edges<'_> {
     type Item = Edge;
 
-    ghost next_gives = { λ s r t. Gives (left s) r (left t) };
+    ghost next_gives = { YieldsFirst left };
 
-    ghost remaining = { λ s. at_most (length (left s)) };
+    ghost remaining = { item_count left };
 
     fn next(&mut self) -> Option<Edge> {
         let step = self.store.next_edge(self.place, self.direction)?;
