@@ -1,22 +1,12 @@
 -- What resolving a context draws, entry by entry.
-use Rattle.std.proofs.Common.{◌≡◌, ℕ, ◌+◌, ◌<◌, Bool, true, false, cond, not, ◌&&◌, List, [], ◌∷◌, ◌++◌, map, length, get_or, take, is_some, filter, count_by, sym, refl, ap, ◌∙◌, zero-add, arith}
-use Rattle.std.proofs.lemmas.List.{take_more}
+use Rattle.std.proofs.Common.{◌≡◌, ℕ, ◌+◌, Bool, true, false, cond, not, ◌&&◌, List, [], ◌∷◌, map, length, is_some, filter, count_by, sym, refl, ap, ◌∙◌, zero-add, arith}
 use Rattle.std.proofs.lemmas.List.Sums.{sum_by-cons}
 use Rattle.blocks.specs.Blocks.{GraphState}
 use Rattle.contexts.specs.Contexts.{Entry, Context, jump_added, entries_drawn, has_target}
-use Rattle.contexts.specs.Tables.{waits_in, entry_of, entries_of, context_of, jump_of, one_drawn, all_drawn, draws, lacks}
+use Rattle.contexts.specs.Tables.{waits_in, entry_of, entries_of, context_of, jump_of, all_drawn, draws, lacks}
 use Rattle.contexts.specs.declared.ctx.Ctx.{Ctx}
 use Rattle.contexts.specs.declared.ctx.WaitingEntry.{WaitingEntry}
 use Rattle.contexts.proofs.Views.{jump_fits}
-
-pub drawn_push : (at : ℕ) (c : Ctx) (ws : List WaitingEntry) (w : WaitingEntry) (p : GraphState)
-    → all_drawn at c (ws ++ w ∷ []) p ≡ one_drawn at c w (all_drawn at c ws p)
-drawn_push at c [] w p = refl
-drawn_push at c (v ∷ ws) w p = drawn_push at c ws w (one_drawn at c v p)
-
-pub drawn_more : (at : ℕ) (c : Ctx) (ws : List WaitingEntry) (i : ℕ) (d : WaitingEntry) (p : GraphState) → i < length ws
-    → all_drawn at c (take (i + 1) ws) p ≡ one_drawn at c (get_or ws i d) (all_drawn at c (take i ws) p)
-drawn_more at c ws i d p l = ap (λ x. all_drawn at c x p) (take_more ws i d l) ∙ drawn_push at c (take i ws) (get_or ws i d) p
 
 -- what a resolve draws
 pub draws_own : (at : ℕ) (c : Ctx) (es : List Entry) (ws : List WaitingEntry) (g : GraphState)

@@ -10,7 +10,7 @@
 --   LabelsFit text cs     every label lies within the text
 --   above_block w         one more than the block of w; above_context: than the number of its context
 use Rattle.std.specs.Prelude.{◌≡◌, ℕ, suc, Bool, true, cond, not, ◌&&◌, List, [], ◌∷◌, map, reverse, length, take, is_some, Some, None, filter, Option, ◌==◌}
-use Rattle.std.specs.List.{All}
+use Rattle.std.specs.List.{All, fold}
 use Rattle.blocks.specs.Blocks.{GraphState}
 use Rattle.contexts.specs.Contexts.{Entry, Context, label_fits, flag_set, jump_added}
 use Rattle.contexts.specs.declared.ctx.Ctx.{Ctx}
@@ -51,8 +51,7 @@ abbrev pub one_drawn : ℕ → Ctx → WaitingEntry → GraphState → GraphStat
 one_drawn i c w g = cond (waits_in i w) (jump_added w.block (jump_of w.kind c) g) g
 
 abbrev pub all_drawn : ℕ → Ctx → List WaitingEntry → GraphState → GraphState
-all_drawn i c [] g = g
-all_drawn i c (w ∷ ws) g = all_drawn i c ws (one_drawn i c w g)
+all_drawn i c ws g = fold (λ h w. one_drawn i c w h) g ws
 
 abbrev pub draws : ℕ → Ctx → WaitingEntry → Bool
 draws i c w = waits_in i w && is_some (jump_of w.kind c)

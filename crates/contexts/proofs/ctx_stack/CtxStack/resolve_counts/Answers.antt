@@ -16,5 +16,5 @@ returns c =
     let n = c.counts.result in
     let a : n.0 ≡ drawn_count k = c.counts.ensures.drawn ∙ ap (count_by (draws i x)) seen ∙ draws_own_count i x es ws in
     let b : n.1 ≡ untargeted_count k = c.counts.ensures.untargeted ∙ ap (count_by (lacks i x)) seen ∙ lacks_own_count i x es ws in
-    let both = ap (λ z. Some (z, n.1)) a ∙ ap (λ z. Some (drawn_count k, z)) b in
+    let both : Some n ≡ Some (drawn_count k, untargeted_count k) = ap (λ z. Some (z, n.1)) a ∙ ap (λ z. Some (drawn_count k, z)) b in
     record { value = both ∙ sym (ap resolve_counts e); waiting = omega (arith, target_split k es, ap waiting_count e, ap (λ z. waiting_count (below_top z)) e) }

@@ -1,18 +1,14 @@
 use Rattle.std.proofs.Common.{◌≡◌, ◌<◌, List, [], ◌∷◌, ◌++◌, length, set, Some, sym, refl, ap, ◌∙◌, subst, arith, rules}
-use Rattle.std.proofs.lemmas.List.{length-set, length_push}
+use Rattle.std.proofs.lemmas.List.{length-set}
 use Rattle.kinds.specs.declared.edge.Edge.{Edge}
 use Rattle.store.specs.Edges.{block_at, newest}
 use Rattle.store.specs.Links.{edges_in, toward, Firsts, Nexts, Within}
-use Rattle.store.specs.View.{edges_of}
 use Rattle.store.specs.declared.direction.Direction.TheVariants.{Outgoing, Incoming}
 use Rattle.store.specs.declared.link.Link.{Link}
 use Rattle.store.specs.declared.link.Node.{Node}
 use Rattle.store.proofs.Linking.{length_edges, edges_push, firsts_edge, firsts_kept, nexts_edge, within_edge}
 use Rattle.store.proofs.Tables.{first_newest}
 use Rattle.store.proofs.edge_store.EdgeStore.add_edge.Goals as goal
-
-pub push_reserved-requires : goal.push_reserved-requires
-push_reserved-requires c = let s = c.args.self.now in omega (arith, length_edges s.links.items)
 
 pub invariant_of-self : goal.invariant_of-self
 invariant_of-self c =
@@ -48,8 +44,3 @@ invariant_of-self c =
           (elim d as (λ d. block_at d e < length ns) [ Outgoing ↦ from | Incoming ↦ to ]) (s.within d));
       few_nodes = search rules;
     }
-
-pub returns : goal.returns
-returns c =
-    let e = ap edges_in c.push_reserved.ensures.items ∙ edges_push c.args.self.now.links.items _ in
-    record { nodes = search rules; edges = e; count = ap length e ∙ length_push (edges_of c.args.self.now) _ }
