@@ -28,7 +28,7 @@ impl<'a> MarkGuard<'a> {
         requires { block < length self.now.marks.now }
         ensures { result ≡ mark_of (slice_index self.now.marks.now block) }
     {
-        Mark::of_byte(self.marks[block as usize])
+        Mark::from(self.marks[block as usize])
     }
 
     // Marks a block. O(1).
@@ -38,6 +38,6 @@ impl<'a> MarkGuard<'a> {
         ensures marks { self.new.marks.now ≡ slice_set self.old.marks.now block (byte_of mark) }
         ensures same { self.new.marks.ghost_name ≡ self.old.marks.ghost_name }
     {
-        self.marks[block as usize] = mark.byte();
+        self.marks[block as usize] = u8::from(mark);
     }
 }
