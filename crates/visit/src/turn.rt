@@ -54,7 +54,6 @@ pub fn close<V: Visitor>(
     u: u32,
 ) -> Option<V::Stop>
     requires { u < length guard.old.marks.now }
-    ensures count { guard.new.count ≡ guard.old.count }
     ensures marks { guard.new.marks.now ≡ slice_set guard.old.marks.now u 2 }
     ensures same { guard.new.marks.ghost_name ≡ guard.old.marks.ghost_name }
     ensures closes { CloseTurn V.Visitor.meaning guard.old.marks.now guard.new.marks.now time u visitor.old visitor.new result }
@@ -77,7 +76,6 @@ pub fn open<G: Graph, V: Visitor>(
 ) -> Option<V::Stop>
     requires block { u < length guard.old.marks.now }
     requires room { stack.old.used < length stack.old.slots.now }
-    ensures count { guard.new.count ≡ guard.old.count }
     ensures marks { guard.new.marks.now ≡ slice_set guard.old.marks.now u 1 }
     ensures same { guard.new.marks.ghost_name ≡ guard.old.marks.ghost_name }
     ensures slots { length stack.new.slots.now ≡ length stack.old.slots.now }

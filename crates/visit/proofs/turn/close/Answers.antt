@@ -9,7 +9,6 @@ returns-in-Break g c =
     let V = g.V.Visitor.meaning in
     let heard = visits c.visit.ensures.reply c.visit.ensures.state in
     record {
-      count = c.set.ensures.count;
       marks = c.set.ensures.marks;
       same = c.set.ensures.same;
       closes = λ G fs end st. closed_over V G st heard c.in-Break.value c.in-Break.is;
@@ -20,7 +19,6 @@ returns-in-Continue g c =
     let V = g.V.Visitor.meaning in
     let heard = visits c.visit.ensures.reply c.visit.ensures.state in
     record {
-      count = c.set.ensures.count;
       marks = c.set.ensures.marks;
       same = c.set.ensures.same;
       closes = λ G fs end st.

@@ -11,7 +11,6 @@ returns-in-Continue g c =
     let rest = g.G.Graph.rest c.args.graph.now in
     let heard = visits c.visit.ensures.reply c.visit.ensures.state in
     record {
-      count = c.set.ensures.count;
       marks = c.set.ensures.marks;
       same = c.set.ensures.same;
       slots = c.push.ensures.room;
@@ -30,7 +29,6 @@ returns-in-Prune g c =
     let few = sound.few in
     let n = c.node_count.ensures in
     record {
-      count = c.set.ensures.count;
       marks = c.set.ensures.marks;
       same = c.set.ensures.same;
       slots = c.push-in-Prune.ensures.room;
@@ -46,7 +44,6 @@ returns-in-Break g c =
     let G = g.G.Graph.meaning c.args.graph.now in
     let heard = visits c.visit.ensures.reply c.visit.ensures.state in
     record {
-      count = c.set.ensures.count;
       marks = c.set.ensures.marks;
       same = c.set.ensures.same;
       slots = refl;
