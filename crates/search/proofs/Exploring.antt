@@ -1,5 +1,7 @@
 -- Where the walk stands as blocks are taken off the stack and put on it.
-use Rattle.std.proofs.Common.{◌≡◌, ℕ, ◌+◌, ◌-◌, ◌*◌, ◌<◌, ◌≤◌, List, [], ◌∷◌, length, get_or, Option, sym, refl, ap, ◌∙◌, subst, inl, arith}
+use Rattle.std.proofs.Common.{◌≡◌, ℕ, Bool, true, ◌+◌, ◌-◌, ◌*◌, ◌<◌, ◌≤◌, List, [], ◌∷◌, length, get_or, Option, sym, refl, ap, ◌∙◌, subst, inl, arith}
+use Rattle.std.specs.declared.ops.ControlFlow.{ControlFlow}
+use Rattle.std.specs.declared.ops.ControlFlow.TheVariants.{Continue}
 use Rattle.graph.specs.Meaning.{Meaning, Member}
 use Rattle.walk.specs.declared.mark.Mark.TheVariants.{New, Open}
 use Rattle.walk.specs.Marks.{mark_of}
@@ -9,8 +11,6 @@ use Rattle.walk.proofs.Marks.{unseen_mark_as, unseen_most}
 use Rattle.visit.specs.declared.frame.Frame.{Frame}
 use Rattle.visit.specs.declared.guard.MarkGuard.{MarkGuard}
 use Rattle.visit.specs.declared.stack.Stack.{Stack}
-use Rattle.visit.specs.declared.turn.Reading.{Reading}
-use Rattle.visit.specs.declared.turn.Reading.TheVariants.{Enter}
 use Rattle.visit.specs.Held.{held}
 use Rattle.visit.specs.OpenFrames.{opened, stacked}
 use Rattle.visit.specs.Standing.{Idle, Stands, Opens, GoesOn}
@@ -26,7 +26,7 @@ first_member {v} e = subst (Member v) (sym e) (inl refl)
 -- From where a loop began: what was kept, and that the walk is bound for the end that it was bound for.
 pub record Along {S B X : Type 0} (V : Visitor S B) (G : Meaning) (g g' : MarkGuard) (s s' : Stack X) (t t' : ℕ) (x x' : S)
     (fs fs' : List OpenBlock) : Type 0 where
-  pub kept : Kept G.size g g' s s' t t'
+  pub kept : Kept g g' s s' t t'
   pub bound : (end : State S B) → Stands V G g.marks.now t x fs end → Stands V G g'.marks.now t' x' fs' end
 
 module _ {S B P : Type 0} (V : Visitor S B) (G : Meaning) (rest : P → List ℕ) where
@@ -95,7 +95,7 @@ module _ {S B P : Type 0} (V : Visitor S B) (G : Meaning) (rest : P → List ℕ
       record { marks = h.at.long; block = h.blocks.0; depth = omega arith; clock = omega arith }
 
   -- a neighbour is read
-  pub reading : {v : ℕ} {vs : List ℕ} (x'' : S) (r : Reading B) → l ≡ v ∷ vs → v < G.size → ReadTurn V g'.marks.now u v x' x'' r
+  pub reading : {v : ℕ} {vs : List ℕ} (x'' : S) (r : ControlFlow B Bool) → l ≡ v ∷ vs → v < G.size → ReadTurn V g'.marks.now u v x' x'' r
       → (end : State S B) → Stands V G g.marks.now t x fs end → Reads V G v g'.marks.now t' x'' (record { block = u; rest = vs } ∷ stacked rest s') end r
   reading {vs = vs} x'' r e i turn end st =
       turn G t' vs (stacked rest s') end i (subst (λ k. Stands V G g'.marks.now t' x' (record { block = u; rest = k } ∷ stacked rest s') end) e (a.bound end st))
@@ -107,11 +107,11 @@ module _ {S B P : Type 0} (V : Visitor S B) (G : Meaning) (rest : P → List ℕ
       turn G (stacked rest s') end (subst (λ k. Stands V G g'.marks.now t' x' (record { block = u; rest = k } ∷ stacked rest s') end) e (a.bound end st))
 
   -- a neighbour that is to be opened
-  module _ {v : ℕ} {place : P} (x'' : S) (e : l ≡ v ∷ rest place) (i : v < G.size) (read : ReadTurn V g'.marks.now u v x' x'' Enter)
+  module _ {v : ℕ} {place : P} (x'' : S) (e : l ≡ v ∷ rest place) (i : v < G.size) (read : ReadTurn V g'.marks.now u v x' x'' (Continue true))
       (new : mark_of (get_or g'.marks.now v 0) ≡ New) where
     pub room_above : (end : State S B) → Stands V G g.marks.now t x fs end → s'.used + 1 < G.size
     room_above end st =
-        let o = reading x'' Enter e i read end st in
+        let o = reading x'' (Continue true) e i read end st in
         let d = depth_is rest s'.slots.now s'.used a.kept.fits in
         let r = o.room in
         let p = unseen_mark_as v Open o.s.mark tt (marked V G i o (sym new)) G.size i in
@@ -123,4 +123,4 @@ module _ {S B P : Type 0} (V : Visitor S B) (G : Meaning) (rest : P → List ℕ
         → OpenTurn V G g'.marks.now g''.marks.now t' v x'' x''' (stacked rest s₁) (stacked rest s'') r
         → (end : State S B) → Stands V G g.marks.now t x fs end → GoesOn V G g''.marks.now (t' + 1) x''' (stacked rest s'') end r
     entering s₁ s'' g'' x''' r h turn end st =
-        turn end i new (subst (λ k. Opens V G v g'.marks.now t' x'' k end) (sym (on_top V G rest h)) (reading x'' Enter e i read end st))
+        turn end i new (subst (λ k. Opens V G v g'.marks.now t' x'' k end) (sym (on_top V G rest h)) (reading x'' (Continue true) e i read end st))

@@ -13,6 +13,7 @@ ghost use Rattle.search.specs.Refused.{refused};
 use crate::explore::open_start;
 use crate::refuse::refuse_walk;
 use graph::graph::Graph;
+use std::ops::ControlFlow;
 use kinds::refusal::Refusal;
 use visit::frame::Frame;
 use visit::guard::MarkGuard;
@@ -48,19 +49,17 @@ pub fn set_depth_first_search<G: Graph, V: Visitor>(
         → DepthSuffices V.Visitor.meaning (G.Graph.meaning graph.now) starts.now visitor.old }
 {
     let count = graph.node_count();
-    if let Some(refusal) = refuse_walk(count, starts, marks, frames.len()) {
-        return Err(refusal);
-    }
-    let mut guard = MarkGuard { marks, count };
+    refuse_walk(count, starts, marks, frames.len())?;
+    let mut guard = MarkGuard {
+        marks: &mut marks[..count],
+    };
     let mut stack = Stack::new(frames);
     let mut time = 0;
-    'starts: for start in starts {
-        match guard.get(*start) {
-            Mark::New => {}
-            Mark::Open | Mark::Done => continue 'starts,
-        }
-        if let Some(value) = open_start(graph, visitor, &mut guard, &mut stack, &mut time, *start) {
-            return Ok(Some(value));
+    for start in starts {
+        if guard.get(*start) == Mark::New {
+            if let ControlFlow::Break(value) = open_start(graph, visitor, &mut guard, &mut stack, &mut time, *start) {
+                return Ok(Some(value));
+            }
         }
     }
     Ok(None)

@@ -9,6 +9,6 @@ abbrev pub invariant-starts : goal.invariant-starts
 invariant-starts g l =
     let V = g.V.Visitor.meaning in
     let G = g.G.Graph.meaning l.graph in
-    Kept G.size l.initial.guard l.guard l.initial.stack l.stack l.initial.time l.time
+    Kept l.initial.guard l.guard l.initial.stack l.stack l.initial.time l.time
     × (l.stack.used ≡ 0)
     × Bound V G l.starts l.guard.marks.now l.time l.visitor l.start-index (walk V G l.starts l.initial.visitor)
