@@ -4,7 +4,7 @@ use Rattle.kinds.specs.declared.refusal.Refusal.{Refusal}
 use Rattle.kinds.specs.Replies.{after, told}
 use Rattle.graph.specs.Meaning.{Meaning}
 use Rattle.walk.specs.Walk.{walk}
-use Rattle.search.proofs.Laws.{ok_stop}
+use Rattle.search.proofs.Laws.{ok_value}
 use Rattle.trace.specs.declared.options.TraceEnd.{TraceEnd}
 use Rattle.trace.specs.declared.recorder.Recorder.{Recorder}
 use Rattle.trace.specs.Recording.{orders_of, recording}
@@ -29,7 +29,7 @@ module _ (G : Meaning) (us : List ℕ) (x : Recorder) where
         same = ap (λ r. r.log.ghost_name) v ∙ w.recorded.same;
         holds = ap (λ r. r.log.now) v ∙ w.recorded.holds;
         answer = ap (λ n. Ok (record { events = n; stop = stop })) (ap (λ r. r.used) v ∙ w.recorded.used)
-            ∙ ap (λ o. Ok (record { events = (trace_end (traced G (orders_of x) us) (length x.log.now)).events; stop = o })) (ok_stop a ∙ w.stopped);
+            ∙ ap (λ o. Ok (record { events = (trace_end (traced G (orders_of x) us) (length x.log.now)).events; stop = o })) (ok_value a ∙ w.stopped);
       }
 
   pub refused_walk : (why : Option Refusal) (y : Recorder) (e : Refusal)
