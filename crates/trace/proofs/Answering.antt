@@ -1,5 +1,5 @@
 -- What a traced walk leaves in the log and replies, refused or not.
-use Rattle.std.proofs.Common.{◌≡◌, ℕ, List, length, Some, None, Ok, Err, Option, Result, ap, ◌∙◌, arith}
+use Rattle.std.proofs.Common.{◌≡◌, ℕ, List, length, Some, None, Ok, Option, Result, ap, ◌∙◌, arith}
 use Rattle.kinds.specs.declared.refusal.Refusal.{Refusal}
 use Rattle.kinds.specs.Replies.{after, told}
 use Rattle.graph.specs.Meaning.{Meaning}
@@ -31,10 +31,3 @@ module _ (G : Meaning) (us : List ℕ) (x : Recorder) where
         answer = ap (λ n. Ok (record { events = n; stop = stop })) (ap (λ r. r.used) v ∙ w.recorded.used)
             ∙ ap (λ o. Ok (record { events = (trace_end (traced G (orders_of x) us) (length x.log.now)).events; stop = o })) (ok_value a ∙ w.stopped);
       }
-
-  pub refused_walk : (why : Option Refusal) (y : Recorder) (e : Refusal)
-      → ◌≡◌ {A = Result (Option ℕ) Refusal} (Err e) (told why (walk recording G us x).stop) → y ≡ after why x (walk recording G us x).visitor
-      → Replied why y (Err e)
-  refused_walk None y e a v = let z : ◌≡◌ {A = ℕ} 0 1 = cc in absurd (omega arith)
-  refused_walk (Some d) y e a v =
-      let same : e ≡ d = cc in record { same = ap (λ r. r.log.ghost_name) v; holds = ap (λ r. r.log.now) v; answer = ap Err same }
