@@ -1,6 +1,8 @@
 -- A test asked of one number of a list after another.
 use borrow.Author.Tests.{clash}
-use Rattle.std.proofs.Common.{◌≡◌, ℕ, zero, suc, ◌<◌, Bool, true, false, ◌||◌, List, [], ◌∷◌, length, get_or, sym, refl, ap, ◌∙◌, inl, inr, le_of_suc-le-suc, not-suc-le-zero}
+use Rattle.std.proofs.Common.{◌≡◌, ℕ, ◌<◌, Bool, true, false, ◌||◌, List, [], ◌∷◌, length, get_or, sym, refl, ap, ◌∙◌, inl, inr}
+use Rattle.std.proofs.lemmas.Bool.{cases_Bool}
+use Rattle.std.proofs.lemmas.List.Folds.{list_any_at}
 use Rattle.graph.specs.Meaning.{Member}
 use Rattle.std.specs.List.{list_any}
 
@@ -19,6 +21,4 @@ module _ (p : ℕ → Bool) where
   none_of (y ∷ xs) e x (inr m) = none_of xs (none_first y xs e).1 x m
 
   pub none_at : (xs : List ℕ) → list_any p xs ≡ false → (i : ℕ) → i < length xs → p (get_or xs i 0) ≡ false
-  none_at [] e i h = absurd (not-suc-le-zero h)
-  none_at (x ∷ xs) e zero h = (none_first x xs e).0
-  none_at (x ∷ xs) e (suc i) h = none_at xs (none_first x xs e).1 i (le_of_suc-le-suc h)
+  none_at xs e i h = elim (cases_Bool (p (get_or xs i 0))) [ inl t ↦ absurd (clash (sym e ∙ list_any_at p xs i 0 h t)) | inr f ↦ f ]

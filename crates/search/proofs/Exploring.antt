@@ -65,18 +65,6 @@ module _ {X S P B : Type 0} (V : Visitor S B) (G : Meaning) (rest : P → List �
     pub kept : Kept p p'
     pub bound : (end : State S B) → Unread V G rest p end → Stands V G p'.guard.now.marks.now p'.time p'.visitor.now fs end
 
-  -- the top is taken off
-  pub topped : {p p' : Search X S P} {s : Stack (Frame P)} {f : Frame P} → Along p p' (stacked rest p'.stack.now)
-      → length s.slots.now ≡ length p'.stack.now.slots.now → held p'.stack.now.slots.now p'.stack.now.used ≡ f ∷ held s.slots.now s.used
-      → Along p (record { graph = p'.graph; visitor = p'.visitor; guard = p'.guard; stack = record { ref_ptr = p'.stack.ref_ptr; ghost_name = p'.stack.ghost_name; now = s }; time = p'.time })
-      (record { block = f.block; rest = rest f.place } ∷ stacked rest s)
-  topped {p' = p'} a r e =
-      let k = a.kept in
-      record {
-        kept = record { graph = k.graph; heard = k.heard; guard = k.guard; same = k.same; long = k.long; slots = r ∙ k.slots; later = k.later };
-        bound = λ end st. subst (λ fs. Stands V G p'.guard.now.marks.now p'.time p'.visitor.now fs end) (ap (opened rest) e) (a.bound end st);
-      }
-
   -- a start is about to be opened
   pub starting : {p : Search X S P} (u : ℕ) {s : State S B} → AtRest G p s
       → Opens V G u p.guard.now.marks.now p.time p.visitor.now (stacked rest p.stack.now) (opening V G G.size u s)
@@ -99,15 +87,28 @@ module _ {X S P B : Type 0} (V : Visitor S B) (G : Meaning) (rest : P → List �
       whole : (n : ℕ) → n - 0 ≡ n
       whole n = omega arith
 
-  -- The walk stands in the list of the block u, which is on top of what the stack holds.
-  pub record Inside (p : Search X S P) (u : ℕ) : Type 0 where
-    pub marks : G.size ≤ length p.guard.now.marks.now
-    pub block : u < G.size
-    pub depth : p.stack.now.used < G.size
-    pub clock : p.time < 2 * G.size
+-- The walk stands in the list of the block u, which is on top of what the stack holds.
+pub record Inside {X S P : Type 0} (G : Meaning) (p : Search X S P) (u : ℕ) : Type 0 where
+  pub marks : G.size ≤ length p.guard.now.marks.now
+  pub block : u < G.size
+  pub depth : p.stack.now.used < G.size
+  pub clock : p.time < 2 * G.size
 
-  module _ {p p' : Search X S P} {u : ℕ} {l : List ℕ} (a : Along p p' (record { block = u; rest = l } ∷ stacked rest p'.stack.now)) where
-    pub inside : (end : State S B) → Unread V G rest p end → Inside p' u
+module _ {X S P B : Type 0} {V : Visitor S B} {G : Meaning} {rest : P → List ℕ} where
+  -- the top is taken off
+  pub topped : {p p' : Search X S P} {s : Stack (Frame P)} {f : Frame P} → Along V G rest p p' (stacked rest p'.stack.now)
+      → length s.slots.now ≡ length p'.stack.now.slots.now → held p'.stack.now.slots.now p'.stack.now.used ≡ f ∷ held s.slots.now s.used
+      → Along V G rest p (record { graph = p'.graph; visitor = p'.visitor; guard = p'.guard; stack = record { ref_ptr = p'.stack.ref_ptr; ghost_name = p'.stack.ghost_name; now = s }; time = p'.time })
+      (record { block = f.block; rest = rest f.place } ∷ stacked rest s)
+  topped {p' = p'} a r e =
+      let k = a.kept in
+      record {
+        kept = record { graph = k.graph; heard = k.heard; guard = k.guard; same = k.same; long = k.long; slots = r ∙ k.slots; later = k.later };
+        bound = λ end st. subst (λ fs. Stands V G p'.guard.now.marks.now p'.time p'.visitor.now fs end) (ap (opened rest) e) (a.bound end st);
+      }
+
+  module _ {p p' : Search X S P} {u : ℕ} {l : List ℕ} (a : Along V G rest p p' (record { block = u; rest = l } ∷ stacked rest p'.stack.now)) where
+    pub inside : (end : State S B) → Unread V G rest p end → Inside G p' u
     inside end st =
         let h = a.bound end st in
         let d = depth_is rest p'.stack.now.slots.now p'.stack.now.used p'.stack.now.fits in

@@ -1,5 +1,5 @@
 -- How a walk that is not refused answers, and the laws of the walk at the arguments of the public call.
-use Rattle.std.proofs.Common.{◌≡◌, ℕ, List, length, Some, None, Ok, Err, Option, Result, sym, refl, ap, ◌∙◌, subst, arith}
+use Rattle.std.proofs.Common.{◌≡◌, ℕ, List, Some, None, Ok, Err, Option, Result, sym, refl, ap, ◌∙◌, arith}
 use Rattle.kinds.specs.declared.refusal.Refusal.{Refusal}
 use Rattle.kinds.specs.Replies.{told}
 use Rattle.graph.specs.Meaning.{Meaning, Sound}

@@ -47,7 +47,8 @@ module _ {X S P B : Type 0} (V : Visitor S B) (G : Meaning) where
     pub rests : AtRest G p s
     pub leads : starts V G G.size (drop i us) s ≡ end
 
-  module _ {us : List ℕ} {p : Search X S P} {i : ℕ} {end : State S B} (o : Bound us p i end) (more : i < length us) where
+module _ {X S P B : Type 0} {V : Visitor S B} {G : Meaning} where
+  module _ {us : List ℕ} {p : Search X S P} {i : ℕ} {end : State S B} (o : Bound V G us p i end) (more : i < length us) where
     onward : starts V G G.size (drop (suc i) us) (unless_ended o.s.stop o.s (start_marked V G G.size (get_or us i 0) (o.s.mark (get_or us i 0)) o.s)) ≡ end
     unfolding starts
     onward = ap (λ xs. starts V G G.size xs o.s) (sym (drop-cons us i 0 more)) ∙ o.leads
@@ -57,7 +58,7 @@ module _ {X S P B : Type 0} (V : Visitor S B) (G : Meaning) where
     next s' e = ap (λ k. starts V G G.size (drop k us) s') (add-one i) ∙ ap (starts V G G.size (drop (suc i) us)) (sym e) ∙ onward
 
     -- the start is discovered already
-    pub bound_skip : get_or us i 0 < G.size → (mark_of (get_or p.guard.now.marks.now (get_or us i 0) 0) ≡ New → ⊥) → Bound us p (i + 1) end
+    pub bound_skip : get_or us i 0 < G.size → (mark_of (get_or p.guard.now.marks.now (get_or us i 0) 0) ≡ New → ⊥) → Bound V G us p (i + 1) end
     bound_skip l d = record { s = o.s; rests = o.rests; leads = next o.s (by o.s.stop o.rests.idle.running (o.s.mark (get_or us i 0)) refl) }
       where
         by : (x : Option B) → x ≡ None → (m : Mark) → o.s.mark (get_or us i 0) ≡ m
@@ -74,7 +75,7 @@ module _ {X S P B : Type 0} (V : Visitor S B) (G : Meaning) where
           ap (λ x. unless_ended x o.s (start_marked V G G.size (get_or us i 0) (o.s.mark (get_or us i 0)) o.s)) o.rests.idle.running
           ∙ ap (λ m. start_marked V G G.size (get_or us i 0) m o.s) (sym (o.rests.idle.at.holds (get_or us i 0) l) ∙ new)
 
-      pub bound_next : {p' : Search X S P} → AtRest G p' (opening V G G.size (get_or us i 0) o.s) → Bound us p' (i + 1) end
+      pub bound_next : {p' : Search X S P} → AtRest G p' (opening V G G.size (get_or us i 0) o.s) → Bound V G us p' (i + 1) end
       bound_next h =
           record { s = opening V G G.size (get_or us i 0) o.s; rests = h; leads = next (opening V G G.size (get_or us i 0) o.s) opened_start }
 
@@ -84,7 +85,7 @@ module _ {X S P B : Type 0} (V : Visitor S B) (G : Meaning) where
           let z : s' ≡ end = sym (starts_ended V G (drop (i + 1) us) s' x h.0) ∙ next s' opened_start in
           (sym (ap (λ y. y.stop) z) ∙ h.0, sym (ap (λ y. y.visitor) z) ∙ h.1)
 
-  pub bound_end : {us : List ℕ} {p : Search X S P} {i : ℕ} {end : State S B} → Bound us p i end → length us ≤ i
+  pub bound_end : {us : List ℕ} {p : Search X S P} {i : ℕ} {end : State S B} → Bound V G us p i end → length us ≤ i
       → (end.stop ≡ None) × (end.visitor ≡ p.visitor.now)
   unfolding starts
   bound_end {us} {i = i} {end} o e =

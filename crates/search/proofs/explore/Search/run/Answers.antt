@@ -25,7 +25,7 @@ returns-in_err-open_start-clause-walked g c =
     let new : mark_of (get_or c.loop-start.self.guard.now.marks.now start 0) ≡ New = search rules in
     let explores = subst (λ q. ExploredFrom V (g.G.Graph.meaning q.now) c.loop-start.self c.open_start.new.self start (Some c.in_err-open_start.field-0.0))
     inv.0.graph c.in_err-open_start.ensures.explores in
-    rw c.from_residual.ensures (bound_over V G inv.1 c.loop-start-test.true block new (explores inv.1.s inv.1.rests))
+    rw c.from_residual.ensures (bound_over inv.1 c.loop-start-test.true block new (explores inv.1.s inv.1.rests))
 
 pub loop-start-preserved : goal.loop-start-preserved
 loop-start-preserved g c =
@@ -40,13 +40,13 @@ loop-start-preserved g c =
           let new : mark_of (get_or c.loop-start.self.guard.now.marks.now start 0) ≡ New = search rules in
           let explores = subst (λ q. ExploredFrom V (g.G.Graph.meaning q.now) c.loop-start.self w.open_start.new.self start None)
           inv.0.graph w.in_ok-open_start.ensures.explores in
-          rw w.self-is (kept_on inv.0 w.open_start.ensures.kept, bound_next V G inv.1 c.loop-start-test.true block new (explores inv.1.s inv.1.rests))
+          rw w.self-is (kept_on inv.0 w.open_start.ensures.kept, bound_next inv.1 c.loop-start-test.true block new (explores inv.1.s inv.1.rests))
       | else-eq w ↦
           let h = w.if-eq.ensures in
           let new : mark_of (get_or c.loop-start.self.guard.now.marks.now start 0) ≡ New → ⊥ = λ e. clash (rw (c.get.ensures ∙ e) at h) in
-          rw w.self-is (inv.0, bound_skip V G inv.1 c.loop-start-test.true block new)
+          rw w.self-is (inv.0, bound_skip inv.1 c.loop-start-test.true block new)
     ]
 
 pub returns-clause-walked : goal.returns-clause-walked
 returns-clause-walked g c =
-    bound_end g.V.Visitor.meaning (g.G.Graph.meaning c.args.self.now.graph.now) c.loop-start.invariant.1 c.loop-start-test.false
+    bound_end c.loop-start.invariant.1 c.loop-start-test.false
