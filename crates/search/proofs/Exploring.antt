@@ -24,9 +24,6 @@ pub first_member : {v : ℕ} {l vs : List ℕ} → l ≡ v ∷ vs → Member v l
 first_member {v} e = subst (Member v) (sym e) (inl refl)
 
 module _ {X S P : Type 0} where
-  pub kept_first : (p : Search X S P) → Kept p p
-  kept_first p = record { graph = refl; heard = refl; guard = refl; same = refl; long = refl; slots = refl; later = omega arith }
-
   pub kept_on : {p p' p'' : Search X S P} → Kept p p' → Kept p' p'' → Kept p p''
   kept_on a b =
       let x = a.later in
