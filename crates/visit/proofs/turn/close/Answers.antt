@@ -17,4 +17,3 @@ returns-in-Continue-clause-closes g c =
     λ G fs end st.
     subst (λ m. Stands V G m (c.args.time + 1) c.visit.new.self fs end) (sym c.set.ensures.marks)
     (closed_on V G st heard (not_break c.visit.result c.in-Continue.is))
-

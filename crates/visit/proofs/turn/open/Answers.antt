@@ -32,4 +32,3 @@ returns-in-Break-clause-opens g c =
     let G = g.G.Graph.meaning c.args.graph.now in
     let heard = visits c.visit.ensures.reply c.visit.ensures.state in
     λ end l e st. opened_over V G l e st heard c.in-Break.value c.in-Break.is
-

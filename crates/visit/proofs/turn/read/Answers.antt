@@ -46,4 +46,3 @@ returns-in-Continue-visit-2-clause-reads g c =
     let heard = visits c.visit-in-Done.ensures.reply c.visit-in-Done.ensures.state in
     λ G t vs fs end l st.
     read_on V G Done st (marked V G l st c.in-Done.ensures) heard old_done (not_break c.visit-in-Done.result c.in-Continue-visit-2.is)
-
