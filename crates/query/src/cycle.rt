@@ -27,8 +27,6 @@ pub fn is_cyclic<G: Graph>(
     ensures law { IfOk result (CycleIsWayBack (G.Graph.meaning graph.now) block) }
 {
     let mut visitor = CycleVisitor { block };
-    match set_depth_first_search(graph, &[block], &mut visitor, marks, frames) {
-        Ok(stop) => Ok(stop.is_some()),
-        Err(refusal) => Err(refusal),
-    }
+    let stop = set_depth_first_search(graph, &[block], &mut visitor, marks, frames)?;
+    Ok(stop.is_some())
 }

@@ -33,9 +33,7 @@ pub fn is_reachable_filtered<G: Graph, F: Filter>(
         (reachable (G.Graph.meaning graph.now) (F.Filter.meaning filter.now) from to) }
     ensures law { IfOk result (ReachIsDistance (G.Graph.meaning graph.now) (F.Filter.meaning filter.now) from to) }
 {
-    if let Some(refusal) = refuse_walk(graph.node_count(), &[from, to], marks, frames.len()) {
-        return Err(refusal);
-    }
+    refuse_walk(graph.node_count(), &[from, to], marks, frames.len())?;
     if from == to {
         return Ok(true);
     }
@@ -44,10 +42,8 @@ pub fn is_reachable_filtered<G: Graph, F: Filter>(
         filter,
         target: to,
     };
-    match set_depth_first_search(graph, &[from], &mut visitor, marks, frames) {
-        Ok(stop) => Ok(stop.unwrap_or(false)),
-        Err(refusal) => Err(refusal),
-    }
+    let stop = set_depth_first_search(graph, &[from], &mut visitor, marks, frames)?;
+    Ok(stop.unwrap_or(false))
 }
 
 // Whether `to` is reached from `from` over permitted steps. O(blocks + listed neighbours).

@@ -21,21 +21,13 @@ impl<'a, 'b, G: Graph, F: Filter> Visitor for ReachVisitor<'a, 'b, G, F> {
     ghost meaning = { record { reply = λ s e. reach_reply (G.Graph.meaning s.graph.now) (F.Filter.meaning s.filter.now) s.target e; next = λ s _. s } };
 
     fn visit(&mut self, event: DfsEvent) -> Control<bool> {
-        match event {
-            DfsEvent::TreeEdge(u, v) => match self.filter.filter(u) {
-                Control::Continue => {
-                    if !self.graph.permitted(u, v) {
-                        Control::Prune
-                    } else if v == self.target {
-                        Control::Break(true)
-                    } else {
-                        Control::Continue
-                    }
-                }
-                Control::Prune => Control::Prune,
-                Control::Break(answer) => Control::Break(answer),
-            },
-            _ => Control::Continue,
+        let DfsEvent::TreeEdge(u, v) = event else {
+            return Control::Continue;
+        };
+        match self.filter.filter(u) {
+            Control::Continue if !self.graph.permitted(u, v) => Control::Prune,
+            Control::Continue if v == self.target => Control::Break(true),
+            reply => reply,
         }
     }
 }
@@ -53,13 +45,7 @@ impl Visitor for CycleVisitor {
 
     fn visit(&mut self, event: DfsEvent) -> Control<()> {
         match event {
-            DfsEvent::BackEdge(_, v) => {
-                if v == self.block {
-                    Control::Break(())
-                } else {
-                    Control::Continue
-                }
-            }
+            DfsEvent::BackEdge(_, v) if v == self.block => Control::Break(()),
             _ => Control::Continue,
         }
     }

@@ -1,6 +1,5 @@
 pub mod Any
 pub mod Refusals
-pub mod Keeping
 pub mod Exploring
 pub mod Starting
 pub mod Laws

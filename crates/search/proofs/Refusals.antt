@@ -1,7 +1,6 @@
 -- What holds where a walk is not refused, and marks that were clean.
-use Rattle.std.proofs.Common.{◌≡◌, ℕ, ◌<◌, ◌≤◌, Bool, true, false, not, eqb, ltb, List, [], ◌∷◌, ◌++◌, length, get_or, take, drop, replicate, Some, None, Option, sym, refl, ap, ◌∙◌, arith, take-append-drop, length-take, ltb-false, ltb-true, eqb-true}
+use Rattle.std.proofs.Common.{◌≡◌, ℕ, ◌<◌, ◌≤◌, Bool, true, false, not, eqb, ltb, List, [], ◌∷◌, length, get_or, take, replicate, Some, None, Option, refl, ap, ◌∙◌, arith, length-take, ltb-false, ltb-true, eqb-true}
 use borrow.Author.Tests.{not-false}
-use Rattle.std.proofs.lemmas.List.{get_or-take}
 use Rattle.kinds.specs.declared.refusal.Refusal.{Refusal}
 use Rattle.kinds.specs.declared.refusal.Refusal.TheVariants.{NoBlock, Short, Dirty}
 use Rattle.kinds.specs.Replies.{row}
@@ -41,24 +40,14 @@ below n us e u m = ltb-true u n (not-false (ltb u n) (none_of (λ u. not (ltb u 
 pub block_at : (n : ℕ) (us : List ℕ) (i : ℕ) → no_block n us ≡ false → i < length us → get_or us i 0 < n
 block_at n us i e h = ltb-true (get_or us i 0) n (not-false (ltb (get_or us i 0) n) (none_at (λ u. not (ltb u n)) us e i h))
 
+zeros : (xs : List ℕ) → dirty xs ≡ false → xs ≡ replicate (length xs) 0
+zeros [] e = refl
+zeros (x ∷ xs) e =
+    let p = none_first (λ m. not (eqb m 0)) x xs e in
+    ap (λ k. k ∷ xs) (eqb-true x 0 (not-false (eqb x 0) p.0)) ∙ ap (λ k. 0 ∷ k) (zeros xs p.1)
+
 -- clean marks are 0
-module _ (n : ℕ) (marks : List ℕ) (long : n ≤ length marks) (clean : dirty (take n marks) ≡ false) where
-  long_take : length (take n marks) ≡ n
-  long_take = let l = length-take n marks in omega arith
-
-  zeros : (xs : List ℕ) → dirty xs ≡ false → xs ≡ replicate (length xs) 0
-  zeros [] e = refl
-  zeros (x ∷ xs) e =
-      let p = none_first (λ m. not (eqb m 0)) x xs e in
-      ap (λ k. k ∷ xs) (eqb-true x 0 (not-false (eqb x 0) p.0)) ∙ ap (λ k. 0 ∷ k) (zeros xs p.1)
-
-  pub zero_at : (k : ℕ) → k < n → get_or marks k 0 ≡ 0
-  zero_at k l =
-      let h : k < length (take n marks) = (let e = long_take in omega arith) in
-      sym (get_or-take n marks k 0 l) ∙ eqb-true (get_or (take n marks) k 0) 0 (not-false (eqb (get_or (take n marks) k 0) 0) (none_at (λ m. not (eqb m 0)) (take n marks) clean k h))
-
-  -- where they are cleared below n again, and the others are as they were, all are
-  pub cleared_same : (marks' : List ℕ) → drop n marks' ≡ drop n marks → replicate n 0 ++ drop n marks' ≡ marks
-  cleared_same marks' d =
-      let e : take n marks ≡ replicate n 0 = zeros (take n marks) clean ∙ ap (λ j. replicate j 0) long_take in
-      ap (λ k. replicate n 0 ++ k) d ∙ ap (λ k. k ++ drop n marks) (sym e) ∙ take-append-drop n marks
+pub clean_zeros : (n : ℕ) (marks : List ℕ) → n ≤ length marks → dirty (take n marks) ≡ false → take n marks ≡ replicate n 0
+clean_zeros n marks long clean =
+    let e : length (take n marks) ≡ n = (let l = length-take n marks in omega arith) in
+    zeros (take n marks) clean ∙ ap (λ j. replicate j 0) e

@@ -1,16 +1,14 @@
 -- What the loops of a walk leave as it was. Assumes nothing.
 --
---   Kept n g g' s s' t t'   the guard g keeps its lent marks, how many they are, those from n on, and its count;
---                           the stack s keeps its slots and holds no more than fit; the number t does not fall
-use Rattle.std.specs.Prelude.{◌≡◌, ℕ, ◌≤◌, length, drop}
-use Rattle.visit.specs.declared.guard.MarkGuard.{MarkGuard}
-use Rattle.visit.specs.declared.stack.Stack.{Stack}
+--   Kept p p'   the search p' has the graph, the visitor and the marks that were lent to p, and as many marks and slots; its number is no less
+use Rattle.std.specs.Prelude.{◌≡◌, ◌≤◌, length}
+use Rattle.search.specs.declared.explore.Search.{Search}
 
-pub record Kept {X : Type 0} (n : ℕ) (g g' : MarkGuard) (s s' : Stack X) (t t' : ℕ) : Type 0 where
-  pub count : g'.count ≡ g.count
-  pub same : g'.marks.ghost_name ≡ g.marks.ghost_name
-  pub long : length g'.marks.now ≡ length g.marks.now
-  pub beyond : drop n g'.marks.now ≡ drop n g.marks.now
-  pub slots : length s'.slots.now ≡ length s.slots.now
-  pub fits : s'.used ≤ length s'.slots.now
-  pub later : t ≤ t'
+pub record Kept {G V P : Type 0} (p p' : Search G V P) : Type 0 where
+  pub graph : p'.graph ≡ p.graph
+  pub heard : p'.visitor.ghost_name ≡ p.visitor.ghost_name
+  pub guard : p'.guard.ghost_name ≡ p.guard.ghost_name
+  pub same : p'.guard.now.marks.ghost_name ≡ p.guard.now.marks.ghost_name
+  pub long : length p'.guard.now.marks.now ≡ length p.guard.now.marks.now
+  pub slots : length p'.stack.now.slots.now ≡ length p.stack.now.slots.now
+  pub later : p.time ≤ p'.time

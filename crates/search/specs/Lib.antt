@@ -1,4 +1,3 @@
-pub mod Any
 pub mod Refused
 pub mod Frames
 pub mod Kept

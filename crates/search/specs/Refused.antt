@@ -7,13 +7,13 @@ use Rattle.std.specs.Prelude.{ℕ, Bool, not, List, length, take, None, Option, 
 use Rattle.kinds.specs.declared.refusal.Refusal.{Refusal}
 use Rattle.kinds.specs.declared.refusal.Refusal.TheVariants.{NoBlock, Short, Dirty}
 use Rattle.kinds.specs.Replies.{row}
-use Rattle.search.specs.Any.{any}
+use Rattle.std.specs.List.{list_any}
 
 abbrev pub no_block : ℕ → List ℕ → Bool
-no_block n us = any (λ u. not (nat_lt u n)) us
+no_block n us = list_any (λ u. not (nat_lt u n)) us
 
 abbrev pub dirty : List ℕ → Bool
-dirty marks = any (λ m. not (m == 0)) marks
+dirty marks = list_any (λ m. not (m == 0)) marks
 
 abbrev pub refused : ℕ → List ℕ → List ℕ → ℕ → Option Refusal
 refused n us marks room =

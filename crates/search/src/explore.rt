@@ -1,89 +1,98 @@
-// The loops of the walk: over the open blocks, and over the neighbours of the top. They are for the walk alone, which meets what they require.
-ghost use Rattle.std.specs.Prelude.{◌≡◌, ◌<◌, ◌≤◌, length, Some, None, slice_index};
+// The loops of the walk: over the starts, over the open blocks, and over the neighbours of the top. They are for the walk alone, which meets what they require.
+ghost use Rattle.std.specs.Prelude.{◌≡◌, ◌<◌, ◌≤◌, false, length, slice_index};
+ghost use Rattle.std.specs.ControlFlow.{break_value};
 ghost use Rattle.walk.specs.declared.mark.Mark.TheVariants.{New};
 ghost use Rattle.walk.specs.Marks.{mark_of};
-ghost use Rattle.walk.specs.Walk.{State};
-ghost use Rattle.visit.specs.OpenFrames.{stacked};
-ghost use Rattle.visit.specs.Standing.{Idle, Stands};
-ghost use Rattle.search.specs.Explored.{Explored, ExploredFrom};
+ghost use Rattle.walk.specs.Walk.{State, begin, walk};
+ghost use Rattle.search.specs.Explored.{AtRest, Explored, ExploredFrom, Unread, Walked};
 ghost use Rattle.search.specs.Kept.{Kept};
+ghost use Rattle.search.specs.Refused.{no_block};
 
 use graph::graph::Graph;
+use std::ops::ControlFlow;
 use visit::frame::Frame;
 use visit::guard::MarkGuard;
 use visit::stack::Stack;
-use visit::turn::{Reading, close, open, read};
+use visit::turn::{close, open, read};
 use visit::visitor::Visitor;
+use walk::mark::Mark;
 
-// Reads and closes the open blocks, and those that they lead to, until none is open or the visitor ends the walk.
-pub fn explore<G: Graph, V: Visitor>(
-    graph: &G,
-    visitor: &mut V,
-    guard: &mut MarkGuard,
-    stack: &mut Stack<Frame<G::Place>>,
-    time: &mut u32,
-) -> Option<V::Stop>
-    requires room { (G.Graph.meaning graph.now).size ≤ length stack.old.slots.now }
-    requires fits { stack.old.used ≤ length stack.old.slots.now }
-    requires stands { (end : State V V.Stop) × Stands V.Visitor.meaning (G.Graph.meaning graph.now) guard.old.marks.now time.old visitor.old
-        (stacked (G.Graph.rest graph.now) stack.old) end }
-    ensures kept { Kept (G.Graph.meaning graph.now).size guard.old guard.new stack.old stack.new
-        time.old time.new }
-    ensures empty { elim result [ None ↦ stack.new.used ≡ 0 | Some x ↦ Unit {0} ] }
-    ensures explores { Explored V.Visitor.meaning (G.Graph.meaning graph.now)
-        guard.old.marks.now guard.new.marks.now time.old time.new visitor.old visitor.new
-        (stacked (G.Graph.rest graph.now) stack.old) result }
-{
-    'frames: while let Some(frame) = stack.pop() {
-        let u = frame.block;
-        let mut place = frame.place;
-        'neighbors: while let Some(step) = graph.next(place) {
-            let v = step.block;
-            place = step.next;
-            match read(visitor, guard, u, v) {
-                Reading::Stopped(value) => return Some(value),
-                Reading::Passed => continue 'neighbors,
-                Reading::Enter => {}
-            }
-            stack.push(Frame { block: u, place });
-            if let Some(value) = open(graph, visitor, guard, stack, *time, v) {
-                return Some(value);
-            }
-            *time += 1;
-            continue 'frames;
-        }
-        if let Some(value) = close(visitor, guard, *time, u) {
-            return Some(value);
-        }
-        *time += 1;
-    }
-    None
+// A walk under way: the graph, the visitor, the marks of the blocks, the frames of those that are open, and the next number.
+#[derive(Drop)]
+pub struct Search<'g, 'v, 'a, 'm, 'b, 'f, G: Graph, V> {
+    pub graph: &'g G,
+    pub visitor: &'v mut V,
+    pub guard: &'a mut MarkGuard<'m>,
+    pub stack: &'b mut Stack<'f, Frame<G::Place>>,
+    pub time: u32,
 }
 
-// Opens the new block `start` with no block open, and goes on until it is closed or the visitor ends the walk.
-pub fn open_start<G: Graph, V: Visitor>(
-    graph: &G,
-    visitor: &mut V,
-    guard: &mut MarkGuard,
-    stack: &mut Stack<Frame<G::Place>>,
-    time: &mut u32,
-    start: u32,
-) -> Option<V::Stop>
-    requires block { start < (G.Graph.meaning graph.now).size }
-    requires room { (G.Graph.meaning graph.now).size ≤ length stack.old.slots.now }
-    requires empty { stack.old.used ≡ 0 }
-    requires new { mark_of (slice_index guard.old.marks.now start) ≡ New }
-    requires idle { (s : State V V.Stop) × Idle (G.Graph.meaning graph.now).size guard.old.marks.now time.old visitor.old s }
-    ensures kept { Kept (G.Graph.meaning graph.now).size guard.old guard.new stack.old stack.new
-        time.old time.new }
-    ensures empty { elim result [ None ↦ stack.new.used ≡ 0 | Some x ↦ Unit {0} ] }
-    ensures explores { ExploredFrom V.Visitor.meaning (G.Graph.meaning graph.now)
-        guard.old.marks.now guard.new.marks.now time.old time.new visitor.old visitor.new
-        start result }
-{
-    if let Some(value) = open(graph, visitor, guard, stack, *time, start) {
-        return Some(value);
+impl<G: Graph, V: Visitor> Search<'_, '_, '_, '_, '_, '_, G, V> {
+    // Opens each start that is new, in order, and all that it leads to, until the visitor ends the walk.
+    pub fn run(&mut self, starts: &[u32]) -> ControlFlow<V::Stop>
+        requires blocks { no_block (G.Graph.meaning self.old.graph.now).size starts.now ≡ false }
+        requires rests { AtRest (G.Graph.meaning self.old.graph.now) self.old (begin V.Visitor.meaning self.old.visitor.now) }
+        ensures kept { Kept self.old self.new }
+        ensures walked { Walked V.Visitor.meaning (G.Graph.meaning self.old.graph.now) starts.now self.old self.new (break_value result) }
+    {
+        for start in starts {
+            if self.guard.get(*start) == Mark::New {
+                self.open_start(*start)?;
+            }
+        }
+        ControlFlow::Continue(())
     }
-    *time += 1;
-    explore(graph, visitor, guard, stack, time)
+
+    // Opens the new block `start` with no block open, and goes on until it is closed or the visitor ends the walk.
+    fn open_start(&mut self, start: u32) -> ControlFlow<V::Stop>
+        requires block { start < (G.Graph.meaning self.old.graph.now).size }
+        requires new { mark_of (slice_index self.old.guard.now.marks.now start) ≡ New }
+        requires rests { (s : State V V.Stop) × AtRest (G.Graph.meaning self.old.graph.now) self.old s }
+        ensures kept { Kept self.old self.new }
+        ensures explores { ExploredFrom V.Visitor.meaning (G.Graph.meaning self.old.graph.now) self.old self.new start (break_value result) }
+    {
+        open(
+            self.graph,
+            self.visitor,
+            self.guard,
+            self.stack,
+            self.time,
+            start,
+        )?;
+        self.time += 1;
+        self.explore()
+    }
+
+    // Reads and closes the open blocks, and those that they lead to, until none is open or the visitor ends the walk.
+    fn explore(&mut self) -> ControlFlow<V::Stop>
+        requires room { (G.Graph.meaning self.old.graph.now).size ≤ length self.old.stack.now.slots.now }
+        requires unread { (end : State V V.Stop) × Unread V.Visitor.meaning (G.Graph.meaning self.old.graph.now) (G.Graph.rest self.old.graph.now) self.old end }
+        ensures kept { Kept self.old self.new }
+        ensures explores { Explored V.Visitor.meaning (G.Graph.meaning self.old.graph.now) (G.Graph.rest self.old.graph.now) self.old self.new (break_value result) }
+    {
+        let graph = self.graph;
+        'frames: while let Some(frame) = self.stack.pop() {
+            let u = frame.block;
+            let mut place = frame.place;
+            'neighbors: while let Some(step) = graph.next(place) {
+                place = step.next;
+                if read(self.visitor, self.guard, u, step.block)? {
+                    self.stack.push(Frame { block: u, place });
+                    open(
+                        graph,
+                        self.visitor,
+                        self.guard,
+                        self.stack,
+                        self.time,
+                        step.block,
+                    )?;
+                    self.time += 1;
+                    continue 'frames;
+                }
+            }
+            close(self.visitor, self.guard, self.time, u)?;
+            self.time += 1;
+        }
+        ControlFlow::Continue(())
+    }
 }

@@ -1,5 +1,6 @@
 // What stands against a walk.
-ghost use Rattle.std.specs.Prelude.{◌≡◌, ◌≤◌, length, take};
+ghost use Rattle.std.specs.Prelude.{◌≡◌};
+ghost use Rattle.kinds.specs.Replies.{told};
 ghost use Rattle.search.specs.Refused.{dirty, no_block, refused};
 
 use kinds::refusal::Refusal;
@@ -8,42 +9,27 @@ use kinds::refusal::Refusal;
 fn has_no_block(count: usize, starts: &[u32]) -> bool
     ensures { result ≡ no_block count starts.now }
 {
-    for start in starts {
-        if *start as usize >= count {
-            return true;
-        }
-    }
-    false
+    starts.iter().any(|start| *start as usize >= count)
 }
 
-// Whether one of the first `count` marks is not zero.
-fn is_dirty(count: usize, marks: &[u8]) -> bool
-    requires { count ≤ length marks.now }
-    ensures { result ≡ dirty (take count marks.now) }
+// Whether one of the marks is not zero.
+fn is_dirty(marks: &[u8]) -> bool
+    ensures { result ≡ dirty marks.now }
 {
-    for i in 0..count {
-        if marks[i] != 0 {
-            return true;
-        }
-    }
-    false
+    marks.iter().any(|mark| *mark != 0)
 }
 
-// Why a walk of `count` blocks from the starts is refused, with memory for `room` frames; none where it is not. O(starts + count).
-pub fn refuse_walk(count: usize, starts: &[u32], marks: &[u8], room: usize) -> Option<Refusal>
-    ensures { result ≡ refused count starts.now marks.now room }
+// Refuses a walk of `count` blocks from the starts, with memory for `room` frames, where something stands against it. O(starts + count).
+pub fn refuse_walk(count: usize, starts: &[u32], marks: &[u8], room: usize) -> Result<(), Refusal>
+    ensures { result ≡ told (refused count starts.now marks.now room) tt }
 {
     if has_no_block(count, starts) {
-        return Some(Refusal::NoBlock);
+        Err(Refusal::NoBlock)
+    } else if marks.len() < count || room < count {
+        Err(Refusal::Short)
+    } else if is_dirty(&marks[..count]) {
+        Err(Refusal::Dirty)
+    } else {
+        Ok(())
     }
-    if marks.len() < count {
-        return Some(Refusal::Short);
-    }
-    if room < count {
-        return Some(Refusal::Short);
-    }
-    if is_dirty(count, marks) {
-        return Some(Refusal::Dirty);
-    }
-    None
 }

@@ -1,10 +1,10 @@
 -- What a traced walk leaves in the log and replies, refused or not.
-use Rattle.std.proofs.Common.{◌≡◌, ℕ, List, length, Some, None, Ok, Err, Option, Result, ap, ◌∙◌, arith}
+use Rattle.std.proofs.Common.{◌≡◌, ℕ, List, length, Some, None, Ok, Option, Result, ap, ◌∙◌, arith}
 use Rattle.kinds.specs.declared.refusal.Refusal.{Refusal}
 use Rattle.kinds.specs.Replies.{after, told}
 use Rattle.graph.specs.Meaning.{Meaning}
 use Rattle.walk.specs.Walk.{walk}
-use Rattle.search.proofs.Laws.{ok_stop}
+use Rattle.search.proofs.Laws.{ok_value}
 use Rattle.trace.specs.declared.options.TraceEnd.{TraceEnd}
 use Rattle.trace.specs.declared.recorder.Recorder.{Recorder}
 use Rattle.trace.specs.Recording.{orders_of, recording}
@@ -29,12 +29,5 @@ module _ (G : Meaning) (us : List ℕ) (x : Recorder) where
         same = ap (λ r. r.log.ghost_name) v ∙ w.recorded.same;
         holds = ap (λ r. r.log.now) v ∙ w.recorded.holds;
         answer = ap (λ n. Ok (record { events = n; stop = stop })) (ap (λ r. r.used) v ∙ w.recorded.used)
-            ∙ ap (λ o. Ok (record { events = (trace_end (traced G (orders_of x) us) (length x.log.now)).events; stop = o })) (ok_stop a ∙ w.stopped);
+            ∙ ap (λ o. Ok (record { events = (trace_end (traced G (orders_of x) us) (length x.log.now)).events; stop = o })) (ok_value a ∙ w.stopped);
       }
-
-  pub refused_walk : (why : Option Refusal) (y : Recorder) (e : Refusal)
-      → ◌≡◌ {A = Result (Option ℕ) Refusal} (Err e) (told why (walk recording G us x).stop) → y ≡ after why x (walk recording G us x).visitor
-      → Replied why y (Err e)
-  refused_walk None y e a v = let z : ◌≡◌ {A = ℕ} 0 1 = cc in absurd (omega arith)
-  refused_walk (Some d) y e a v =
-      let same : e ≡ d = cc in record { same = ap (λ r. r.log.ghost_name) v; holds = ap (λ r. r.log.now) v; answer = ap Err same }

@@ -44,11 +44,9 @@ pub fn trace<G: Graph>(
         log,
         used: 0,
     };
-    match set_depth_first_search(graph, starts, &mut recorder, marks, frames) {
-        Ok(stop) => Ok(TraceEnd {
-            events: recorder.used,
-            stop,
-        }),
-        Err(refusal) => Err(refusal),
-    }
+    let stop = set_depth_first_search(graph, starts, &mut recorder, marks, frames)?;
+    Ok(TraceEnd {
+        events: recorder.used,
+        stop,
+    })
 }

@@ -6,8 +6,8 @@ pub struct TraceOptions<'a, 'b> {
     pub prune_at: &'a [u32],
     // a tree edge into one of these is answered by Prune
     pub prune_into: &'b [u32],
-    // the event of this number, counting from 1, is answered by Break with the number; at 0 none is
-    pub break_after: u32,
+    // the event of this number, counting from 1, is answered by Break with the number
+    pub break_after: Option<u32>,
 }
 
 // What a traced walk came to.

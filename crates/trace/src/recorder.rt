@@ -8,8 +8,8 @@ pub mod visits;
 #[derive(Drop)]
 pub struct Recorder<'a, 'b, 'c> {
     pub options: TraceOptions<'a, 'b>,
-    // how many events are to come up to the one that ends the walk, that one included; 0 where none ends it
-    pub until: u32,
+    // how many events are to come up to the one that ends the walk, that one included
+    pub until: Option<u32>,
     pub log: &'c mut [DfsEvent],
     pub used: usize,
 }

@@ -7,6 +7,7 @@ ghost use Rattle.visit.specs.Held.{Popped, held};
 pub struct Stack<'a, T> {
     pub slots: &'a mut [T],
     pub used: usize,
+    ghost fits: { used ≤ length slots.now },
 }
 
 impl<'a, T: Copy> Stack<'a, T> {
@@ -31,7 +32,6 @@ impl<'a, T: Copy> Stack<'a, T> {
 
     // Takes the top off, if there is one. O(1).
     pub fn pop(&mut self) -> Option<T>
-        requires { self.old.used ≤ length self.old.slots.now }
         ensures room { length self.new.slots.now ≡ length self.old.slots.now }
         ensures popped { Popped result self.old.used self.new.used
             (held self.old.slots.now self.old.used) (held self.new.slots.now self.new.used) }

@@ -1,5 +1,6 @@
 // The turns of a walk: a neighbour is read, a block is closed, a block is opened. They are for the walk alone, which meets what they require.
 ghost use Rattle.std.specs.Prelude.{◌≡◌, ◌+◌, ◌<◌, length, Some, None, slice_index, slice_set};
+ghost use Rattle.std.specs.ControlFlow.{break_value};
 ghost use Rattle.walk.specs.declared.mark.Mark.TheVariants.{New};
 ghost use Rattle.walk.specs.Marks.{mark_of};
 ghost use Rattle.visit.specs.OpenFrames.{stacked};
@@ -10,38 +11,34 @@ use crate::guard::MarkGuard;
 use crate::stack::Stack;
 use crate::visitor::Visitor;
 use graph::graph::Graph;
+use std::ops::ControlFlow;
 use walk::event::{Control, DfsEvent};
 use walk::mark::Mark;
 
-// What reading a neighbour comes to.
-pub enum Reading<B> {
-    // the list goes on after it
-    Passed,
-    // it is new, and to be opened
-    Enter,
-    // the visitor ended the walk
-    Stopped(B),
-}
-
-// Reads the neighbour `v` of the open block `u`.
-pub fn read<V: Visitor>(visitor: &mut V, guard: &MarkGuard, u: u32, v: u32) -> Reading<V::Stop>
+// Reads the neighbour `v` of the open block `u`: whether it is new, and to be opened.
+pub fn read<V: Visitor>(
+    visitor: &mut V,
+    guard: &MarkGuard,
+    u: u32,
+    v: u32,
+) -> ControlFlow<V::Stop, bool>
     requires { v < length guard.now.marks.now }
     ensures new { IfEnter result (mark_of (slice_index guard.now.marks.now v) ≡ New) }
     ensures reads { ReadTurn V.Visitor.meaning guard.now.marks.now u v visitor.old visitor.new result }
 {
     match guard.get(v) {
         Mark::New => match visitor.visit(DfsEvent::TreeEdge(u, v)) {
-            Control::Continue => Reading::Enter,
-            Control::Prune => Reading::Passed,
-            Control::Break(value) => Reading::Stopped(value),
+            Control::Continue => ControlFlow::Continue(true),
+            Control::Prune => ControlFlow::Continue(false),
+            Control::Break(value) => ControlFlow::Break(value),
         },
         Mark::Open => match visitor.visit(DfsEvent::BackEdge(u, v)) {
-            Control::Break(value) => Reading::Stopped(value),
-            Control::Continue | Control::Prune => Reading::Passed,
+            Control::Break(value) => ControlFlow::Break(value),
+            Control::Continue | Control::Prune => ControlFlow::Continue(false),
         },
         Mark::Done => match visitor.visit(DfsEvent::CrossForwardEdge(u, v)) {
-            Control::Break(value) => Reading::Stopped(value),
-            Control::Continue | Control::Prune => Reading::Passed,
+            Control::Break(value) => ControlFlow::Break(value),
+            Control::Continue | Control::Prune => ControlFlow::Continue(false),
         },
     }
 }
@@ -52,17 +49,16 @@ pub fn close<V: Visitor>(
     guard: &mut MarkGuard,
     time: u32,
     u: u32,
-) -> Option<V::Stop>
+) -> ControlFlow<V::Stop>
     requires { u < length guard.old.marks.now }
-    ensures count { guard.new.count ≡ guard.old.count }
     ensures marks { guard.new.marks.now ≡ slice_set guard.old.marks.now u 2 }
     ensures same { guard.new.marks.ghost_name ≡ guard.old.marks.ghost_name }
-    ensures closes { CloseTurn V.Visitor.meaning guard.old.marks.now guard.new.marks.now time u visitor.old visitor.new result }
+    ensures closes { CloseTurn V.Visitor.meaning guard.old.marks.now guard.new.marks.now time u visitor.old visitor.new (break_value result) }
 {
     guard.set(u, Mark::Done);
     match visitor.visit(DfsEvent::Finish(u, time)) {
-        Control::Break(value) => Some(value),
-        Control::Continue | Control::Prune => None,
+        Control::Break(value) => ControlFlow::Break(value),
+        Control::Continue | Control::Prune => ControlFlow::Continue(()),
     }
 }
 
@@ -74,18 +70,17 @@ pub fn open<G: Graph, V: Visitor>(
     stack: &mut Stack<Frame<G::Place>>,
     time: u32,
     u: u32,
-) -> Option<V::Stop>
+) -> ControlFlow<V::Stop>
     requires block { u < length guard.old.marks.now }
     requires room { stack.old.used < length stack.old.slots.now }
-    ensures count { guard.new.count ≡ guard.old.count }
     ensures marks { guard.new.marks.now ≡ slice_set guard.old.marks.now u 1 }
     ensures same { guard.new.marks.ghost_name ≡ guard.old.marks.ghost_name }
     ensures slots { length stack.new.slots.now ≡ length stack.old.slots.now }
-    ensures used { elim result [ None ↦ stack.new.used ≡ stack.old.used + 1 | Some x ↦ stack.new.used ≡ stack.old.used ] }
+    ensures used { elim (break_value result) [ None ↦ stack.new.used ≡ stack.old.used + 1 | Some x ↦ stack.new.used ≡ stack.old.used ] }
     ensures opens { OpenTurn V.Visitor.meaning (G.Graph.meaning graph.now)
         guard.old.marks.now guard.new.marks.now time u visitor.old visitor.new
         (stacked (G.Graph.rest graph.now) stack.old)
-        (stacked (G.Graph.rest graph.now) stack.new) result }
+        (stacked (G.Graph.rest graph.now) stack.new) (break_value result) }
 {
     guard.set(u, Mark::Open);
     match visitor.visit(DfsEvent::Discover(u, time)) {
@@ -94,15 +89,15 @@ pub fn open<G: Graph, V: Visitor>(
                 block: u,
                 place: graph.head(u),
             });
-            None
+            ControlFlow::Continue(())
         }
         Control::Prune => {
             stack.push(Frame {
                 block: u,
                 place: graph.head(graph.node_count() as u32),
             });
-            None
+            ControlFlow::Continue(())
         }
-        Control::Break(value) => Some(value),
+        Control::Break(value) => ControlFlow::Break(value),
     }
 }

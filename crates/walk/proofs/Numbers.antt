@@ -1,5 +1,6 @@
 -- The law of the numbers.
-use Rattle.std.proofs.Common.{◌≡◌, ℕ, zero, suc, ◌+◌, ◌*◌, ◌<◌, ◌≤◌, cond, ◌≢◌, ◌⊎◌, List, [], ◌∷◌, length, None, refl, ap, ◌∙◌, subst, inl, inr, arith, eq-eqb, ne_eqb}
+use Rattle.std.proofs.Common.{◌≡◌, ℕ, zero, suc, ◌+◌, ◌*◌, ◌<◌, ◌≤◌, cond, eqb, ◌≢◌, ◌⊎◌, List, [], ◌∷◌, length, None, refl, ap, ◌∙◌, subst, inl, inr, arith, eq-eqb, ne_eqb}
+use Rattle.std.proofs.lemmas.List.Sums.{sum_by-cons}
 use Rattle.graph.specs.Meaning.{Meaning, Sound}
 use Rattle.walk.specs.declared.event.DfsEvent.{DfsEvent}
 use Rattle.walk.specs.declared.event.DfsEvent.TheVariants.{Discover, TreeEdge, BackEdge, CrossForwardEdge, Finish}
@@ -21,14 +22,14 @@ down (suc k) = k ∷ down k
 
 pub count_same : (t : ℕ) (xs : List ℕ) → count t (t ∷ xs) ≡ suc (count t xs)
 unfolding count
-count_same t xs = ap (λ b. cond b 1 0 + count t xs) (eq-eqb t t refl) ∙ one_more (count t xs)
+count_same t xs = sum_by-cons (λ x. cond (eqb t x) 1 0) t xs ∙ ap (λ b. cond b 1 0 + count t xs) (eq-eqb t t refl) ∙ one_more (count t xs)
   where
     one_more : (n : ℕ) → 1 + n ≡ suc n
     one_more n = omega arith
 
 pub count_other : (t x : ℕ) (xs : List ℕ) → t ≢ x → count t (x ∷ xs) ≡ count t xs
 unfolding count
-count_other t x xs d = ap (λ b. cond b 1 0 + count t xs) (ne_eqb t x d) ∙ no_more (count t xs)
+count_other t x xs d = sum_by-cons (λ y. cond (eqb t y) 1 0) x xs ∙ ap (λ b. cond b 1 0 + count t xs) (ne_eqb t x d) ∙ no_more (count t xs)
   where
     no_more : (n : ℕ) → 0 + n ≡ n
     no_more n = omega arith

@@ -5,14 +5,13 @@
 --   numbers_in e  the discovery or finish number in the event e, if it has one
 --   found l       the blocks discovered in the log l, the last first
 --   numbers l     the discovery and finish numbers in the log l, the last first
-use Rattle.std.specs.Prelude.{ℕ, ◌+◌, cond, List, [], ◌∷◌, ◌++◌, ◌==◌}
+use Rattle.std.specs.Prelude.{ℕ, count_by, List, [], ◌∷◌, ◌++◌, ◌==◌}
 use Rattle.walk.specs.declared.event.DfsEvent.{DfsEvent}
 use Rattle.walk.specs.declared.event.DfsEvent.TheVariants.{Discover, TreeEdge, BackEdge, CrossForwardEdge, Finish}
 use Rattle.walk.specs.Walk.{Report}
 
 unfoldable pub count : ℕ → List ℕ → ℕ
-count t [] = 0
-count t (x ∷ xs) = cond (t == x) 1 0 + count t xs
+count t xs = count_by (λ x. t == x) xs
 
 abbrev pub found_in : DfsEvent → List ℕ
 found_in (Discover u t) = u ∷ []

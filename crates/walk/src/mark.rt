@@ -12,28 +12,28 @@ pub enum Mark {
     Done,
 }
 
-impl Mark {
-    // The byte that stands for the mark. O(1).
-    pub fn byte(self) -> u8
-        ensures { result ≡ byte_of self }
-    {
-        match self {
+// The byte that stands for the mark. O(1).
+impl From<Mark> for u8 {
+    ghost from_gives = { λ mark byte. byte ≡ byte_of mark };
+
+    fn from(mark: Mark) -> u8 {
+        match mark {
             Mark::New => 0,
             Mark::Open => 1,
             Mark::Done => 2,
         }
     }
+}
 
-    // The mark that a byte stands for. O(1).
-    pub fn of_byte(byte: u8) -> Mark
-        ensures { result ≡ mark_of byte }
-    {
-        if byte == 0 {
-            Mark::New
-        } else if byte == 1 {
-            Mark::Open
-        } else {
-            Mark::Done
+// The mark that a byte stands for. O(1).
+impl From<u8> for Mark {
+    ghost from_gives = { λ byte mark. mark ≡ mark_of byte };
+
+    fn from(byte: u8) -> Mark {
+        match byte {
+            0 => Mark::New,
+            1 => Mark::Open,
+            _ => Mark::Done,
         }
     }
 }

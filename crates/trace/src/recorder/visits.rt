@@ -23,13 +23,10 @@ impl<'a, 'b, 'c> Recorder<'a, 'b, 'c> {
     fn reply(&self, event: DfsEvent) -> Control<u32>
         ensures { result ≡ reply_to (orders_of self.now) event }
     {
-        if self.until == 1 {
-            return Control::Break(self.options.break_after);
-        }
-        if self.prunes(event) {
-            Control::Prune
-        } else {
-            Control::Continue
+        match (self.options.break_after, self.until) {
+            (Some(number), Some(1)) => Control::Break(number),
+            _ if self.prunes(event) => Control::Prune,
+            _ => Control::Continue,
         }
     }
 
@@ -37,7 +34,7 @@ impl<'a, 'b, 'c> Recorder<'a, 'b, 'c> {
     fn note(&mut self, event: DfsEvent)
         ensures { self.new ≡ noted self.old event }
     {
-        self.until = self.until.saturating_sub(1);
+        self.until = self.until.map(|events| events.saturating_sub(1));
         if self.used < self.log.len() {
             self.log[self.used] = event;
             self.used += 1;

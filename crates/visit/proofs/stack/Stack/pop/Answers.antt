@@ -1,12 +1,12 @@
 -- The top is the last slot in use.
-use Rattle.std.proofs.Common.{◌≡◌, ◌+◌, ◌-◌, refl, ap, ◌∙◌, arith}
+use Rattle.std.proofs.Common.{◌≡◌, ◌+◌, ◌-◌, ap, ◌∙◌, arith}
 use Rattle.visit.specs.Held.{held}
 use Rattle.visit.proofs.Holding.{held_top}
 use Rattle.visit.proofs.stack.Stack.pop.Goals as goal
 
-pub returns : goal.returns
-returns g c =
+pub returns-clause-popped : goal.returns-clause-popped
+returns-clause-popped g c =
     let xs = c.args.self.now.slots.now in
     let k = c.args.self.now.used - 1 in
     let e : c.args.self.now.used ≡ k + 1 = omega arith in
-    record { room = refl; popped = (e, ap (held xs) e ∙ held_top xs k c.index-self-self.result (omega arith)) }
+    (e, ap (held xs) e ∙ held_top xs k c.index-self-self.result (omega arith))

@@ -1,9 +1,6 @@
 -- One write adds the top.
-use Rattle.std.proofs.Common.{refl, length-set}
 use Rattle.visit.proofs.Holding.{held_push}
 use Rattle.visit.proofs.stack.Stack.push.Goals as goal
 
-pub returns : goal.returns
-returns g c =
-    let old = c.args.self.now in
-    record { used = refl; room = simp length-set; held = held_push old.slots.now old.used c.args.x c.requires }
+pub returns-clause-held : goal.returns-clause-held
+returns-clause-held g c = held_push c.args.self.now.slots.now c.args.self.now.used c.args.x c.requires
