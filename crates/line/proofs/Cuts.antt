@@ -1,6 +1,13 @@
 -- A text is cut at its first separator.
-use Rattle.std.proofs.Common.{◌≡◌, ℕ, suc, ◌<◌, cond, List, [], ◌∷◌, ◌++◌, length, get_or, refl, ap, ◌∙◌, arith}
+use Rattle.std.proofs.Common.{◌≡◌, ℕ, suc, ◌<◌, cond, List, [], ◌∷◌, ◌++◌, length, get_or, Option, Some, None, Bor, refl, ap, ◌∙◌, subst, arith}
 use Rattle.std.proofs.lemmas.Bool.{eq-eqb, ne_eqb}
+use Rattle.std.proofs.lemmas.Str.Pattern.{IsSplitOnceResult, split_parts}
+use Rattle.std.specs.Option.{option_map_or}
+use Rattle.line.specs.declared.separator.Separator.{Separator}
+use Rattle.line.specs.declared.separator.Separator.TheVariants.{Blank, Comma, Plus, Colon}
+use Rattle.line.specs.declared.words.Words.{Words}
+use Rattle.line.specs.Cursor.{left}
+use Rattle.line.specs.Separators.{byte_of}
 use Rattle.line.specs.Words.{onto, parts}
 
 module _ (s : ℕ) where
@@ -20,3 +27,27 @@ module _ (s : ℕ) where
   pub parts_first : (xs ys : List ℕ) → Lacks xs → parts s (xs ++ (s ∷ ys)) ≡ xs ∷ parts s ys
   parts_first [] ys h = ap (λ t. cond t ([] ∷ parts s ys) (onto s (parts s ys))) (eq-eqb s s refl)
   parts_first (x ∷ xs) ys h = step x xs (xs ++ (s ∷ ys)) h ∙ ap (onto x) (parts_first xs ys (rest x xs h))
+
+-- a separator is ASCII
+byte_low : (s : Separator) → byte_of s < 128
+byte_low Blank = omega arith
+byte_low Comma = omega arith
+byte_low Plus = omega arith
+byte_low Colon = omega arith
+
+-- what a cut at the first separator finds: the first word and the rest, or the last word
+pub cut_once : (w : Words) (text : Bor (List ℕ)) (s : ℕ) (found : Option (Bor (List ℕ) × Bor (List ℕ)))
+    → w.rest ≡ Some text
+    → s ≡ byte_of w.separator
+    → IsSplitOnceResult s text.now found
+    → left w ≡ option_map_or (λ p. p.0.now ∷ left (record { rest = Some p.1; separator = w.separator })) found (text.now ∷ [])
+cut_once w text s found unread is cut =
+    ap (λ rest. option_map_or (λ t. parts (byte_of w.separator) t.now) rest []) unread
+    ∙ by found (subst (λ k. IsSplitOnceResult k text.now found) is cut)
+  where
+    by : (r : Option (Bor (List ℕ) × Bor (List ℕ))) → IsSplitOnceResult (byte_of w.separator) text.now r
+        → parts (byte_of w.separator) text.now ≡ option_map_or (λ p. p.0.now ∷ parts (byte_of w.separator) p.1.now) r (text.now ∷ [])
+    by None h = parts_only (byte_of w.separator) text.now (split_parts (byte_of w.separator) text.now None h (byte_low w.separator))
+    by (Some p) h =
+        let parted = split_parts (byte_of w.separator) text.now (Some p) h (byte_low w.separator) in
+        ap (parts (byte_of w.separator)) parted.0 ∙ parts_first (byte_of w.separator) p.0.now p.1.now parted.1

@@ -2,14 +2,15 @@
 --
 --   left w        the words that are still to be read
 --   Takes l r m   r is the first of the words l and m what follows it, or r is none and there are none
-use Rattle.std.specs.Prelude.{◌≡◌, ℕ, cond, List, [], ◌∷◌, Some, None, Option}
+use Rattle.std.specs.Prelude.{◌≡◌, ℕ, List, [], ◌∷◌, Some, None, Option}
+use Rattle.std.specs.Option.{option_map_or}
 use Rattle.std.specs.Borrow.{Bor}
 use Rattle.line.specs.declared.words.Words.{Words}
 use Rattle.line.specs.Separators.{byte_of}
 use Rattle.line.specs.Words.{parts}
 
 abbrev pub left : Words → List (List ℕ)
-left w = cond w.ended [] (parts (byte_of w.separator) w.rest.now)
+left w = option_map_or (λ text. parts (byte_of w.separator) text.now) w.rest []
 
 abbrev pub Takes : List (List ℕ) → Option (Bor (List ℕ)) → List (List ℕ) → Type 0
 Takes l None m = (l ≡ []) × (m ≡ [])

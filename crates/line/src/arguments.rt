@@ -1,8 +1,8 @@
 // Words that stand for values, and the values that a call takes where they are all of the words left.
 ghost use Rattle.std.specs.Prelude.{◌≡◌, ℕ, List, Option as Maybe};
-ghost use Rattle.line.specs.Arguments.{dash, no_more, one_of, two_of, three_of};
+ghost use Rattle.line.specs.Arguments.{dash, optional, no_more, of_none, one_of, two_of, three_of};
 ghost use Rattle.line.specs.Cursor.{left};
-ghost use Rattle.line.specs.Numbers.{number_of, optional_number};
+ghost use Rattle.line.specs.Numbers.{number_of};
 
 use crate::number::number;
 use crate::words::Words;
@@ -25,6 +25,25 @@ impl Argument for u32 {
     }
 }
 
+// A value, or `-` for none.
+impl<A: Argument> Argument for Option<A> {
+    ghost reads = { optional A.Argument.reads };
+
+    fn read(word: &str) -> Option<Option<A>> {
+        if is_dash(word) {
+            return Some(None);
+        }
+        Some(Some(A::read(word)?))
+    }
+}
+
+// Whether a word is `-`, which stands for none.
+pub fn is_dash(word: &str) -> bool
+    ensures { result ≡ dash word.now }
+{
+    word == "-"
+}
+
 // Whether no word is left.
 pub fn none(mut words: Words) -> bool
     ensures { result ≡ no_more (left words.entry) }
@@ -32,13 +51,18 @@ pub fn none(mut words: Words) -> bool
     words.next().is_none()
 }
 
+// The value, where no word is left.
+pub fn alone<T: Drop>(value: T, words: Words) -> Option<T>
+    ensures { result ≡ of_none value (left words.entry) }
+{
+    none(words).then_some(value)
+}
+
 // The value that the only word left stands for.
 pub fn one<A: Argument>(mut words: Words) -> Option<A>
     ensures { result ≡ one_of A.Argument.reads (left words.entry) }
 {
-    let Some(word) = words.next() else {
-        return None;
-    };
+    let word = words.next()?;
     if words.next().is_some() {
         return None;
     }
@@ -49,15 +73,8 @@ pub fn one<A: Argument>(mut words: Words) -> Option<A>
 pub fn two<A: Argument, B: Argument>(mut words: Words) -> Option<(A, B)>
     ensures { result ≡ two_of A.Argument.reads B.Argument.reads (left words.entry) }
 {
-    let Some(word) = words.next() else {
-        return None;
-    };
-    let Some(first) = A::read(word) else {
-        return None;
-    };
-    let Some(second) = one::<B>(words) else {
-        return None;
-    };
+    let first = A::read(words.next()?)?;
+    let second = one::<B>(words)?;
     Some((first, second))
 }
 
@@ -65,36 +82,7 @@ pub fn two<A: Argument, B: Argument>(mut words: Words) -> Option<(A, B)>
 pub fn three<A: Argument, B: Argument, C: Argument>(mut words: Words) -> Option<(A, B, C)>
     ensures { result ≡ three_of A.Argument.reads B.Argument.reads C.Argument.reads (left words.entry) }
 {
-    let Some(word) = words.next() else {
-        return None;
-    };
-    let Some(first) = A::read(word) else {
-        return None;
-    };
-    let Some(rest) = two::<B, C>(words) else {
-        return None;
-    };
-    Some((first, rest.0, rest.1))
-}
-
-// Whether a word is `-`, which stands for none.
-pub fn is_dash(word: &str) -> bool
-    ensures { result ≡ dash word.now }
-{
-    word == "-"
-}
-
-// A number, or `-` for none.
-impl Argument for Option<u32> {
-    ghost reads = { optional_number };
-
-    fn read(word: &str) -> Option<Option<u32>> {
-        if is_dash(word) {
-            return Some(None);
-        }
-        let Some(n) = number(word) else {
-            return None;
-        };
-        Some(Some(n))
-    }
+    let first = A::read(words.next()?)?;
+    let (second, third) = two::<B, C>(words)?;
+    Some((first, second, third))
 }

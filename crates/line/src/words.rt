@@ -10,9 +10,9 @@ use crate::separator::Separator;
 // What is left of a text, part by part: parts stand between single separators.
 #[derive(Clone, Copy)]
 pub struct Words<'a> {
-    rest: &'a str,
+    // the text from the next part on, or none after the last part
+    rest: Option<&'a str>,
     separator: Separator,
-    ended: bool,
 }
 
 impl<'a> Words<'a> {
@@ -28,9 +28,8 @@ impl<'a> Words<'a> {
         ensures { left result ≡ parts (byte_of separator) text.now }
     {
         Words {
-            rest: text,
+            rest: Some(text),
             separator,
-            ended: false,
         }
     }
 }
@@ -43,18 +42,15 @@ impl<'a> Iterator for Words<'a> {
     ghost remaining = { λ s. at_most (length (left s)) };
 
     fn next(&mut self) -> Option<&'a str> {
-        if self.ended {
-            return None;
-        }
-        let separator = self.separator.character();
-        match self.rest.split_once(separator) {
+        let text = self.rest?;
+        match text.split_once(char::from(self.separator)) {
             Some((word, rest)) => {
-                self.rest = rest;
+                self.rest = Some(rest);
                 Some(word)
             }
             None => {
-                self.ended = true;
-                Some(self.rest)
+                self.rest = None;
+                Some(text)
             }
         }
     }
