@@ -4,5 +4,4 @@
 mod block_calls;
 mod context_calls;
 mod instruction_calls;
-mod plain;
 pub mod read;
