@@ -5,8 +5,6 @@ use Rattle.std.proofs.lemmas.Str.Pattern.{IsSplitOnceResult, split_parts}
 use Rattle.std.specs.Option.{option_map_or}
 use Rattle.line.specs.declared.separator.Separator.{Separator}
 use Rattle.line.specs.declared.separator.Separator.TheVariants.{Blank, Comma, Plus, Colon}
-use Rattle.line.specs.declared.words.Words.{Words}
-use Rattle.line.specs.Cursor.{left}
 use Rattle.line.specs.Separators.{byte_of}
 use Rattle.line.specs.Words.{onto, parts}
 
@@ -35,19 +33,16 @@ byte_low Comma = omega arith
 byte_low Plus = omega arith
 byte_low Colon = omega arith
 
--- what a cut at the first separator finds: the first word and the rest, or the last word
-pub cut_once : (w : Words) (text : Bor (List ℕ)) (s : ℕ) (found : Option (Bor (List ℕ) × Bor (List ℕ)))
-    → w.rest ≡ Some text
-    → s ≡ byte_of w.separator
-    → IsSplitOnceResult s text.now found
-    → left w ≡ option_map_or (λ p. p.0.now ∷ left (record { rest = Some p.1; separator = w.separator })) found (text.now ∷ [])
-cut_once w text s found unread is cut =
-    ap (λ rest. option_map_or (λ t. parts (byte_of w.separator) t.now) rest []) unread
-    ∙ by found (subst (λ k. IsSplitOnceResult k text.now found) is cut)
+-- what a cut at the first separator finds: the first part and the rest, or the only part
+pub cut_once : (b : Separator) (s : ℕ) (text : List ℕ) (found : Option (Bor (List ℕ) × Bor (List ℕ)))
+    → s ≡ byte_of b
+    → IsSplitOnceResult s text found
+    → parts (byte_of b) text ≡ option_map_or (λ p. p.0.now ∷ parts (byte_of b) p.1.now) found (text ∷ [])
+cut_once b s text found is h = by found (subst (λ k. IsSplitOnceResult k text found) is h)
   where
-    by : (r : Option (Bor (List ℕ) × Bor (List ℕ))) → IsSplitOnceResult (byte_of w.separator) text.now r
-        → parts (byte_of w.separator) text.now ≡ option_map_or (λ p. p.0.now ∷ parts (byte_of w.separator) p.1.now) r (text.now ∷ [])
-    by None h = parts_only (byte_of w.separator) text.now (split_parts (byte_of w.separator) text.now None h (byte_low w.separator))
-    by (Some p) h =
-        let parted = split_parts (byte_of w.separator) text.now (Some p) h (byte_low w.separator) in
-        ap (parts (byte_of w.separator)) parted.0 ∙ parts_first (byte_of w.separator) p.0.now p.1.now parted.1
+    by : (r : Option (Bor (List ℕ) × Bor (List ℕ))) → IsSplitOnceResult (byte_of b) text r
+        → parts (byte_of b) text ≡ option_map_or (λ p. p.0.now ∷ parts (byte_of b) p.1.now) r (text ∷ [])
+    by None c = parts_only (byte_of b) text (split_parts (byte_of b) text None c (byte_low b))
+    by (Some p) c =
+        let parted = split_parts (byte_of b) text (Some p) c (byte_low b) in
+        ap (parts (byte_of b)) parted.0 ∙ parts_first (byte_of b) p.0.now p.1.now parted.1

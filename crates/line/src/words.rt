@@ -1,6 +1,6 @@
 // The words of a line, and the parts of a word.
-ghost use Rattle.std.specs.Prelude.{◌≡◌, length};
-ghost use Rattle.line.specs.Cursor.{left, Takes};
+ghost use Rattle.std.specs.Prelude.{◌≡◌, ◌∷◌, length};
+ghost use Rattle.line.specs.Cursor.{left, parts_left, Takes};
 ghost use Rattle.line.specs.Separators.{byte_of};
 ghost use Rattle.line.specs.Words.{parts, words};
 ghost use Rattle.std.specs.Iterator.{at_most};
@@ -42,16 +42,18 @@ impl<'a> Iterator for Words<'a> {
     ghost remaining = { λ s. at_most (length (left s)) };
 
     fn next(&mut self) -> Option<&'a str> {
-        let text = self.rest?;
-        match text.split_once(char::from(self.separator)) {
-            Some((word, rest)) => {
-                self.rest = Some(rest);
-                Some(word)
-            }
-            None => {
-                self.rest = None;
-                Some(text)
-            }
-        }
+        let (word, rest) = cut(self.rest?, self.separator);
+        self.rest = rest;
+        Some(word)
+    }
+}
+
+// The first part of a text, and what stands after its separator, if there is one.
+fn cut<'a>(text: &'a str, separator: Separator) -> (&'a str, Option<&'a str>)
+    ensures { parts (byte_of separator) text.now ≡ result.0.now ∷ parts_left (byte_of separator) result.1 }
+{
+    match text.split_once(char::from(separator)) {
+        Some((word, rest)) => (word, Some(rest)),
+        None => (text, None),
     }
 }

@@ -46,11 +46,7 @@ impl Session {
 
     // Makes the call that a line writes. A line that is not UTF-8 is no call.
     pub fn answer(&mut self, line: &[u8]) -> Reply {
-        let call = match str::from_utf8(line) {
-            Ok(text) => read_call(text),
-            Err(_) => None,
-        };
-        let Some(call) = call else {
+        let Some(call) = str::from_utf8(line).ok().and_then(read_call) else {
             self.unknown = self.unknown.saturating_add(1);
             return Reply::Unknown;
         };
