@@ -1,6 +1,7 @@
 // Words that stand for values, and the values that a call takes where they are all of the words left.
 ghost use Rattle.std.specs.Prelude.{◌≡◌, ℕ, List, Option as Maybe};
-ghost use Rattle.line.specs.Arguments.{dash, optional, no_more, of_none, one_of, two_of, three_of};
+ghost use Rattle.std.specs.Option.{option_copied};
+ghost use Rattle.line.specs.Arguments.{dash, optional, no_more, only_word, of_none, one_of, two_of, three_of};
 ghost use Rattle.line.specs.Cursor.{left};
 ghost use Rattle.line.specs.Numbers.{number_of};
 
@@ -58,15 +59,19 @@ pub fn alone<T: Drop>(value: T, words: Words) -> Option<T>
     none(words).then_some(value)
 }
 
-// The value that the only word left stands for.
-pub fn one<A: Argument>(mut words: Words) -> Option<A>
-    ensures { result ≡ one_of A.Argument.reads (left words.entry) }
+// The only word left.
+pub fn only<'a>(mut words: Words<'a>) -> Option<&'a str>
+    ensures { option_copied result ≡ only_word (left words.entry) }
 {
     let word = words.next()?;
-    if words.next().is_some() {
-        return None;
-    }
-    A::read(word)
+    alone(word, words)
+}
+
+// The value that the only word left stands for.
+pub fn one<A: Argument>(words: Words) -> Option<A>
+    ensures { result ≡ one_of A.Argument.reads (left words.entry) }
+{
+    A::read(only(words)?)
 }
 
 // The values that the only two words left stand for.
