@@ -1,5 +1,5 @@
 // Sets of segments, listed by rising number.
-ghost use Rattle.std.specs.Prelude.{◌≡◌, length};
+ghost use Rattle.std.specs.Prelude.{◌≡◌, ◌≤◌, length};
 ghost use Rattle.graph.specs.Places.{Steps};
 ghost use Rattle.belt.specs.Listing.{Lists};
 ghost use Rattle.belt.specs.Plan.{has};
@@ -16,6 +16,7 @@ pub struct Segments {
 
 impl Segments {
     // The segments whose bits are set in a word. O(1).
+    #[tactic(auto, using(crate::specs::Soundness::word_lists))]
     pub(crate) fn of(word: u64) -> Segments
         ensures value { result ≡ set_of word }
         ensures lists { Lists (λ s. has s word) (listed result) }
@@ -23,7 +24,17 @@ impl Segments {
         Segments { bits: word }
     }
 
+    // How many segments the set has. O(1).
+    #[tactic(auto, using(crate::proofs::Fed::fed_ones))]
+    pub(crate) fn len(self) -> u32
+        ensures value { result ≡ length (listed self) }
+        ensures few { result ≤ 64 }
+    {
+        self.bits.count_ones()
+    }
+
     // The lowest segment with the set of the others, or none of an empty set. O(1).
+    #[tactic(auto, using(crate::proofs::Listing::segments_next, crate::specs::Soundness::segments_none))]
     pub(crate) fn lowest(self) -> Option<Step<Segments>>
         ensures { Steps listed (listed self) result }
     {
