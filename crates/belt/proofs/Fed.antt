@@ -1,4 +1,4 @@
--- How many segments a word lists: its ones, and none where it is 0.
+-- How many segments a word lists: its ones.
 use Rattle.std.proofs.Common.{◌≡◌, ℕ, zero, suc, ◌+◌, ◌/◌, ◌%◌, ◌^◌, ◌<◌, List, length, sym, refl, ap, ◌∙◌, pow-suc, arith}
 use lib.Count.{ones, ones_step}
 use Rattle.belt.specs.Words.{with_bit, segments_from, segments}

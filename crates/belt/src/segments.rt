@@ -3,8 +3,8 @@ ghost use Rattle.std.specs.Prelude.{◌≡◌, ◌≤◌, length};
 ghost use Rattle.graph.specs.Places.{Steps};
 ghost use Rattle.belt.specs.Listing.{Lists};
 ghost use Rattle.belt.specs.Plan.{has};
-ghost use Rattle.belt.specs.Sets.{listed, set_of, Nexts};
-ghost use Rattle.std.specs.Iterator.{at_most};
+ghost use Rattle.belt.specs.Sets.{listed, set_of};
+ghost use Rattle.std.specs.Iterator.{YieldsFirst, item_count};
 
 use graph::graph::Step;
 
@@ -54,9 +54,9 @@ impl Segments {
 impl Iterator for Segments {
     type Item = u32;
 
-    ghost next_gives = { λ s r t. Nexts (listed s) r (listed t) };
+    ghost next_gives = { YieldsFirst listed };
 
-    ghost remaining = { λ s. at_most (length (listed s)) };
+    ghost remaining = { item_count listed };
 
     fn next(&mut self) -> Option<u32> {
         let step = self.lowest()?;

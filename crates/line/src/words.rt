@@ -1,9 +1,9 @@
 // The words of a line, and the parts of a word.
-ghost use Rattle.std.specs.Prelude.{◌≡◌, ◌∷◌, length};
-ghost use Rattle.line.specs.Cursor.{left, parts_left, Takes};
+ghost use Rattle.std.specs.Prelude.{◌≡◌, ◌∷◌};
+ghost use Rattle.line.specs.Cursor.{left, parts_left};
 ghost use Rattle.line.specs.Separators.{byte_of};
 ghost use Rattle.line.specs.Words.{parts, words};
-ghost use Rattle.std.specs.Iterator.{at_most};
+ghost use Rattle.std.specs.Iterator.{YieldsFirstRef, item_count};
 
 use crate::separator::Separator;
 
@@ -37,9 +37,9 @@ impl<'a> Words<'a> {
 impl<'a> Iterator for Words<'a> {
     type Item = &'a str;
 
-    ghost next_gives = { λ s r t. Takes (left s) r (left t) };
+    ghost next_gives = { YieldsFirstRef left };
 
-    ghost remaining = { λ s. at_most (length (left s)) };
+    ghost remaining = { item_count left };
 
     fn next(&mut self) -> Option<&'a str> {
         let (word, rest) = cut(self.rest?, self.separator);

@@ -85,12 +85,15 @@ pub struct Summary {
 
 impl fmt::Display for Summary {
     fn fmt<W: fmt::Write>(&self, f: &mut fmt::Formatter<W>) -> fmt::Result {
-        let calls = self.calls;
-        let refused = self.refused;
-        let unknown = self.unknown;
-        let feeding = self.feeding;
-        let transfers = self.transfers;
-        let locked = Answer::Listed(self.locked);
+        let Summary {
+            calls,
+            refused,
+            unknown,
+            feeding,
+            transfers,
+            locked,
+        } = *self;
+        let locked = Answer::Listed(locked);
         writeln!(f, "= {calls} calls, {refused} refused")?;
         writeln!(f, "= {unknown} lines were no calls")?;
         writeln!(
