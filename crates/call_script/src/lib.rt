@@ -1,4 +1,4 @@
-// The calls of a call script: read from a line, and the text of their answers.
+// The calls of a call script, read from a line.
 #![tactic(auto)]
 
 mod block_calls;
