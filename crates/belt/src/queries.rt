@@ -18,7 +18,15 @@ impl BeltPlan {
         ensures lists { IfOk result (λ s. Lists (transfer self.now segment) (listed s)) }
     {
         known(segment)?;
-        Ok(Segments::of(self.rows[segment as usize]))
+        Ok(self.row(segment))
+    }
+
+    // The segments that a segment feeds; a number that is no segment feeds none. O(1).
+    pub(crate) fn row(&self, segment: u32) -> Segments
+        ensures answer { result ≡ set_of (row_of self.now segment) }
+        ensures lists { Lists (transfer self.now segment) (listed result) }
+    {
+        Segments::of(self.rows.get(segment as usize).copied().unwrap_or(0))
     }
 
     // Whether a segment feeds another that is not locked. O(1).

@@ -6,6 +6,8 @@ ghost use Rattle.belt.specs.Plan.{has};
 ghost use Rattle.belt.specs.Sets.{listed, set_of};
 ghost use Rattle.std.specs.Iterator.{YieldsFirst, item_count};
 
+use crate::plan::SEGMENTS;
+use crate::words::has_bit;
 use graph::graph::Step;
 
 // A set of segments, one bit each.
@@ -22,6 +24,13 @@ impl Segments {
         ensures lists { Lists (λ s. has s word) (listed result) }
     {
         Segments { bits: word }
+    }
+
+    // Whether a segment is in the set. O(1).
+    pub(crate) fn contains(self, segment: u32) -> bool
+        ensures { result ≡ has segment self.bits }
+    {
+        segment < SEGMENTS && has_bit(self.bits, segment)
     }
 
     // How many segments the set has. O(1).
