@@ -1,11 +1,11 @@
 -- An edit changes one bit, and the plan says so.
-use Rattle.std.proofs.Common.{◌≡◌, ℕ, ◌<◌, Bool, true, false, cond, ◌&&◌, eqb, ltb, ◌≢◌, ◌⊎◌, length, get_or, sym, refl, ap, ◌∙◌, inl, inr, arith}
+use Rattle.std.proofs.Common.{◌≡◌, ℕ, ◌<◌, Bool, true, false, cond, ◌&&◌, eqb, ltb, ◌≢◌, ◌⊎◌, length, get_or, set, sym, refl, ap, ◌∙◌, subst, inl, inr, arith}
 use Rattle.std.proofs.lemmas.List.{get_or-set_same, get_or-set_other}
 use Rattle.std.proofs.lemmas.Bool.{cases_eq, lt-ltb}
 use Rattle.belt.specs.declared.plan.BeltPlan.{BeltPlan}
 use Rattle.belt.specs.Words.{bit, put}
 use Rattle.belt.specs.Plan.{has, transfer, row_of}
-use Rattle.belt.specs.Edits.{with_transfer, with_lock, TransferIs, LockIs}
+use Rattle.belt.specs.Edits.{with_transfer, TransferIs, LockIs}
 use Rattle.belt.proofs.Bits.{bit_same, bit_other}
 
 digit_test : (v : Bool) → eqb (cond v 1 0) 1 ≡ v
@@ -42,16 +42,17 @@ module _ (plan : BeltPlan) (a b : ℕ) (v : Bool) (from : a < 64) (to : b < 64) 
       ∙ ap (λ k. has y (row_of plan k)) (sym e)
   other x y d (inr n) = ap (has y) (row_other x n)
 
-  pub transfer_is : TransferIs v a b plan (with_transfer a b v plan)
-  transfer_is = record {
+  pub transfer_is : (row : ℕ) → row ≡ put b v (get_or plan.rows a 0) → TransferIs v a b plan (record { rows = set plan.rows a row; locked = plan.locked })
+  transfer_is row e = subst (λ r. TransferIs v a b plan (record { rows = set plan.rows a r; locked = plan.locked })) (sym e) (record {
     there = ap (has b) row_same ∙ has_same b v (get_or plan.rows a 0) to;
     others = λ x y d. other x y d (cases_eq x a);
     locks = λ s. refl;
-  }
+  })
 
-pub lock_is : (plan : BeltPlan) (s : ℕ) (v : Bool) → s < 64 → LockIs v s plan (with_lock s v plan)
-lock_is plan s v h = record {
-  there = has_same s v plan.locked h;
-  others = λ x d. has_other s v plan.locked x d;
+pub lock_is : (plan : BeltPlan) (s : ℕ) (v : Bool) (word : ℕ) → s < 64 → word ≡ put s v plan.locked
+    → LockIs v s plan (record { rows = plan.rows; locked = word })
+lock_is plan s v word h e = record {
+  there = ap (has s) e ∙ has_same s v plan.locked h;
+  others = λ x d. ap (has x) e ∙ has_other s v plan.locked x d;
   transfers = λ x y. refl;
 }

@@ -5,7 +5,6 @@ ghost use Rattle.belt.specs.Soundness.{plan_sound, segments_within};
 
 use crate::plan::{BeltPlan, SEGMENTS};
 use crate::segments::Segments;
-use crate::words::has_bit;
 use graph::graph::{Graph, Step};
 
 impl Graph for BeltPlan {
@@ -25,11 +24,7 @@ impl Graph for BeltPlan {
     }
 
     fn head(&self, block: u32) -> Segments {
-        if block < SEGMENTS {
-            Segments::of(self.rows[block as usize])
-        } else {
-            Segments::of(0)
-        }
+        self.row(block)
     }
 
     fn next(&self, place: Segments) -> Option<Step<Segments>> {
@@ -37,9 +32,6 @@ impl Graph for BeltPlan {
     }
 
     fn permitted(&self, from: u32, to: u32) -> bool {
-        from < SEGMENTS
-            && to < SEGMENTS
-            && has_bit(self.rows[from as usize], to)
-            && !has_bit(self.locked, to)
+        self.row(from).contains(to) && !self.locked_segments().contains(to)
     }
 }

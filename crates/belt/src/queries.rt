@@ -6,7 +6,7 @@ ghost use Rattle.belt.specs.Listing.{Lists};
 ghost use Rattle.belt.specs.Plan.{locked, no_segment, no_segments, permitted, row_of, transfer};
 ghost use Rattle.belt.specs.Sets.{listed, set_of};
 
-use crate::plan::{BeltPlan, SEGMENTS};
+use crate::plan::{BeltPlan, known};
 use crate::segments::Segments;
 use graph::graph::Graph;
 use kinds::refusal::Refusal;
@@ -17,19 +17,24 @@ impl BeltPlan {
         ensures answer { result ≡ told (no_segment segment) (set_of (row_of self.now segment)) }
         ensures lists { IfOk result (λ s. Lists (transfer self.now segment) (listed s)) }
     {
-        if segment >= SEGMENTS {
-            return Err(Refusal::NoBlock);
-        }
-        Ok(Segments::of(self.rows[segment as usize]))
+        known(segment)?;
+        Ok(self.row(segment))
+    }
+
+    // The segments that a segment feeds; a number that is no segment feeds none. O(1).
+    pub(crate) fn row(&self, segment: u32) -> Segments
+        ensures answer { result ≡ set_of (row_of self.now segment) }
+        ensures lists { Lists (transfer self.now segment) (listed result) }
+    {
+        Segments::of(self.rows.get(segment as usize).copied().unwrap_or(0))
     }
 
     // Whether a segment feeds another that is not locked. O(1).
     pub fn is_permitted(&self, from: u32, to: u32) -> Result<bool, Refusal>
         ensures { result ≡ told (no_segments from to) (permitted self.now from to) }
     {
-        if from >= SEGMENTS || to >= SEGMENTS {
-            return Err(Refusal::NoBlock);
-        }
+        known(from)?;
+        known(to)?;
         Ok(self.permitted(from, to))
     }
 
@@ -45,23 +50,14 @@ impl BeltPlan {
     pub fn feeding_count(&self) -> u32
         ensures { result ≡ feeding self.now.rows }
     {
-        let mut feeding = 0;
-        for row in self.rows {
-            if row != 0 {
-                feeding += 1;
-            }
-        }
-        feeding
+        let feeding = self.rows.iter().filter(|row| Segments::of(**row).len() > 0);
+        feeding.count() as u32
     }
 
     // How many transfers the plan has. O(n).
     pub fn transfer_count(&self) -> u32
         ensures { result ≡ transfers self.now.rows }
     {
-        let mut transfers = 0;
-        for row in self.rows {
-            transfers += row.count_ones();
-        }
-        transfers
+        self.rows.iter().map(|row| Segments::of(*row).len()).sum()
     }
 }

@@ -1,11 +1,13 @@
 // Sets of segments, listed by rising number.
-ghost use Rattle.std.specs.Prelude.{◌≡◌, length};
+ghost use Rattle.std.specs.Prelude.{◌≡◌, ◌≤◌, length};
 ghost use Rattle.graph.specs.Places.{Steps};
 ghost use Rattle.belt.specs.Listing.{Lists};
 ghost use Rattle.belt.specs.Plan.{has};
-ghost use Rattle.belt.specs.Sets.{listed, set_of, Nexts};
-ghost use Rattle.std.specs.Iterator.{at_most};
+ghost use Rattle.belt.specs.Sets.{listed, set_of};
+ghost use Rattle.std.specs.Iterator.{YieldsFirst, item_count};
 
+use crate::plan::SEGMENTS;
+use crate::words::has_bit;
 use graph::graph::Step;
 
 // A set of segments, one bit each.
@@ -16,6 +18,7 @@ pub struct Segments {
 
 impl Segments {
     // The segments whose bits are set in a word. O(1).
+    #[tactic(auto, using(crate::specs::Soundness::word_lists))]
     pub(crate) fn of(word: u64) -> Segments
         ensures value { result ≡ set_of word }
         ensures lists { Lists (λ s. has s word) (listed result) }
@@ -23,7 +26,24 @@ impl Segments {
         Segments { bits: word }
     }
 
+    // Whether a segment is in the set. O(1).
+    pub(crate) fn contains(self, segment: u32) -> bool
+        ensures { result ≡ has segment self.bits }
+    {
+        segment < SEGMENTS && has_bit(self.bits, segment)
+    }
+
+    // How many segments the set has. O(1).
+    #[tactic(auto, using(crate::proofs::Fed::fed_ones))]
+    pub(crate) fn len(self) -> u32
+        ensures value { result ≡ length (listed self) }
+        ensures few { result ≤ 64 }
+    {
+        self.bits.count_ones()
+    }
+
     // The lowest segment with the set of the others, or none of an empty set. O(1).
+    #[tactic(auto, using(crate::proofs::Listing::segments_next, crate::specs::Soundness::segments_none))]
     pub(crate) fn lowest(self) -> Option<Step<Segments>>
         ensures { Steps listed (listed self) result }
     {
@@ -43,9 +63,9 @@ impl Segments {
 impl Iterator for Segments {
     type Item = u32;
 
-    ghost next_gives = { λ s r t. Nexts (listed s) r (listed t) };
+    ghost next_gives = { YieldsFirst listed };
 
-    ghost remaining = { λ s. at_most (length (listed s)) };
+    ghost remaining = { item_count listed };
 
     fn next(&mut self) -> Option<u32> {
         let step = self.lowest()?;

@@ -3,6 +3,7 @@ ghost use Rattle.std.specs.Prelude.{◌≡◌, ◌<◌, ◌==◌};
 ghost use Rattle.belt.specs.Words.{bit, put};
 
 // The word with a bit set or cleared. O(1).
+#[tactic(auto, using(crate::proofs::Bits::sets, crate::proofs::Bits::clears))]
 pub(crate) fn put_bit(word: u64, at: u32, set: bool) -> u64
     requires { at < 64 }
     ensures { result ≡ put at set word }
@@ -15,6 +16,7 @@ pub(crate) fn put_bit(word: u64, at: u32, set: bool) -> u64
 }
 
 // Whether a bit is set. O(1).
+#[tactic(auto, using(crate::proofs::Bits::reads))]
 pub(crate) fn has_bit(word: u64, at: u32) -> bool
     requires { at < 64 }
     ensures { result ≡ (bit at word == 1) }

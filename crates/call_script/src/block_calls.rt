@@ -4,10 +4,9 @@ ghost use Rattle.line.specs.Cursor.{left};
 ghost use Rattle.line.specs.Rows.{chosen};
 ghost use Rattle.call_script.specs.Lines.{block_calls};
 
-use crate::plain::alone;
 use book::call::Call;
 use kinds::edge::{EdgeType, ErrorEdgeKind};
-use line::arguments::{one, three};
+use line::arguments::{alone, one, three};
 use line::words::Words;
 
 // The call of that name, with what the words left stand for.
@@ -28,8 +27,8 @@ pub fn read_block_call(name: &str, words: Words) -> Option<Call>
         "mark_as_reachable" => Some(Call::MarkAsReachable(one::<u32>(words)?)),
         "mark_as_unreachable" => Some(Call::MarkAsUnreachable(one::<u32>(words)?)),
         "add_edge" => {
-            let edge = three::<u32, u32, EdgeType>(words)?;
-            Some(Call::AddEdge(edge.0, edge.1, edge.2))
+            let (from, to, kind) = three::<u32, u32, EdgeType>(words)?;
+            Some(Call::AddEdge(from, to, kind))
         }
         _ => None,
     }

@@ -4,10 +4,9 @@ ghost use Rattle.line.specs.Cursor.{left};
 ghost use Rattle.line.specs.Rows.{chosen};
 ghost use Rattle.call_script.specs.Lines.{context_calls, entry_calls};
 
-use crate::plain::alone;
 use book::call::Call;
 use kinds::context::{CtxFlags, EntryKind, Label};
-use line::arguments::{one, two};
+use line::arguments::{alone, one, two};
 use line::words::Words;
 
 // The call of that name that opens a context or resolves one, with what the words left stand for.
@@ -16,8 +15,8 @@ pub fn read_context_call(name: &str, words: Words) -> Option<Call>
 {
     match name {
         "ctx_new" => {
-            let given = two::<Option<Label>, CtxFlags>(words)?;
-            Some(Call::New(given.0, given.1))
+            let (label, flags) = two::<Option<Label>, CtxFlags>(words)?;
+            Some(Call::New(label, flags))
         }
         "ctx_default" => Some(Call::Default(one::<Option<Label>>(words)?)),
         "ctx_new_function" => Some(Call::NewFunction(one::<Option<Label>>(words)?)),
@@ -37,12 +36,12 @@ pub fn read_entry_call(name: &str, words: Words) -> Option<Call>
         "break" => Some(Call::File(EntryKind::Break, one::<Option<Label>>(words)?)),
         "continue" => Some(Call::File(EntryKind::Continue, one::<Option<Label>>(words)?)),
         "mark_break" => {
-            let given = two::<Option<Label>, u32>(words)?;
-            Some(Call::Mark(EntryKind::Break, given.0, given.1))
+            let (label, block) = two::<Option<Label>, u32>(words)?;
+            Some(Call::Mark(EntryKind::Break, label, block))
         }
         "mark_continue" => {
-            let given = two::<Option<Label>, u32>(words)?;
-            Some(Call::Mark(EntryKind::Continue, given.0, given.1))
+            let (label, block) = two::<Option<Label>, u32>(words)?;
+            Some(Call::Mark(EntryKind::Continue, label, block))
         }
         "break_top" => alone(Call::FileOnTop(EntryKind::Break), words),
         "continue_top" => alone(Call::FileOnTop(EntryKind::Continue), words),

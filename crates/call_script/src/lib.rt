@@ -1,8 +1,7 @@
-// The calls of a call script: read from a line, and the text of their answers.
+// The calls of a call script, read from a line.
 #![tactic(auto)]
 
 mod block_calls;
 mod context_calls;
 mod instruction_calls;
-mod plain;
 pub mod read;

@@ -14,17 +14,9 @@ pub fn read_call(line: &str) -> Option<Call>
     ensures { result ≡ call_of (words line.now) }
 {
     let mut words = Words::new(line);
-    let Some(name) = words.next() else {
-        return None;
-    };
-    if let Some(call) = read_block_call(name, words) {
-        return Some(call);
-    }
-    if let Some(call) = read_instruction_call(name, words) {
-        return Some(call);
-    }
-    if let Some(call) = read_context_call(name, words) {
-        return Some(call);
-    }
-    read_entry_call(name, words)
+    let name = words.next()?;
+    read_block_call(name, words)
+        .or(read_instruction_call(name, words))
+        .or(read_context_call(name, words))
+        .or(read_entry_call(name, words))
 }

@@ -5,11 +5,11 @@ ghost use Rattle.line.specs.Cursor.{left};
 ghost use Rattle.line.specs.Rows.{chosen};
 ghost use Rattle.line.specs.Words.{words};
 ghost use Rattle.graph_script.specs.Asked.{asked_of, evaluator_of};
-ghost use Rattle.graph_script.specs.Lines.{of_none, reads, by_kind, by_nodes, evaluator, loop_query, named_query, query_of};
+ghost use Rattle.graph_script.specs.Lines.{reads, evaluator, loop_query, named_query, query_of};
 
 use crate::query::{Evaluator, GraphQuery};
 use kinds::block::InstructionKind;
-use line::arguments::{none, one};
+use line::arguments::{alone, one};
 use line::list::only_list;
 use line::number::number;
 use line::words::Words;
@@ -20,20 +20,20 @@ pub fn read_graph_query(heap: Global, line: &str) -> Result<Option<GraphQuery>, 
     ensures { IfOk result (λ q. option_map asked_of q ≡ query_of (words line.now)) }
 {
     let mut words = Words::new(line);
-    let Some(name) = words.next() else {
-        return Ok(None);
-    };
-    read_named(heap, name, words)
+    match words.next() {
+        Some(name) => read_named(heap, name, words),
+        None => Ok(None),
+    }
 }
 
 // The question of that name, with what the words left stand for.
 fn read_named(heap: Global, name: &str, words: Words) -> Result<Option<GraphQuery>, AllocError>
     ensures { IfOk result (λ q. option_map asked_of q ≡ named_query name.now (left words.entry)) }
 {
-    if name == "is_infinite_loop_start" {
-        return read_loop_query(heap, words);
+    match name {
+        "is_infinite_loop_start" => read_loop_query(heap, words),
+        _ => Ok(read_plain(name, words)),
     }
-    Ok(read_plain(name, words))
 }
 
 // A question that takes no list.
@@ -51,60 +51,24 @@ fn read_plain(name: &str, words: Words) -> Option<GraphQuery>
     }
 }
 
-// The question, where no word is left.
-fn alone(query: GraphQuery, words: Words) -> Option<GraphQuery>
-    ensures { option_map asked_of result ≡ of_none (asked_of query) (left words.entry) }
-{
-    if none(words) { Some(query) } else { None }
-}
-
 // The loop query, by its block and its evaluator.
 fn read_loop_query(heap: Global, mut words: Words) -> Result<Option<GraphQuery>, AllocError>
     ensures { IfOk result (λ q. option_map asked_of q ≡ loop_query (left words.entry)) }
 {
-    let Some(word) = words.next() else {
+    let Some(block) = words.next().and_then(number) else {
         return Ok(None);
     };
-    let Some(block) = number(word) else {
-        return Ok(None);
-    };
-    let found = read_evaluator(heap, words)?;
-    let Some(evaluator) = found else {
-        return Ok(None);
-    };
-    Ok(Some(GraphQuery::IsInfiniteLoopStart(block, evaluator)))
+    let evaluator = read_evaluator(heap, words)?;
+    Ok(evaluator.map(|found| GraphQuery::IsInfiniteLoopStart(block, found)))
 }
 
 // The evaluator, by a word that says of which sort it is.
 fn read_evaluator(heap: Global, mut words: Words) -> Result<Option<Evaluator>, AllocError>
     ensures { IfOk result (λ e. option_map evaluator_of e ≡ evaluator (left words.entry)) }
 {
-    let Some(sort) = words.next() else {
-        return Ok(None);
-    };
-    if sort == "kind" {
-        return Ok(true_kind(words));
+    match words.next() {
+        Some("kind") => Ok(one::<InstructionKind>(words).map(Evaluator::Kind)),
+        Some("nodes") => Ok(only_list(heap, words)?.map(Evaluator::Nodes)),
+        _ => Ok(None),
     }
-    if sort == "nodes" {
-        return true_nodes(heap, words);
-    }
-    Ok(None)
-}
-
-// The kind that is the only word left.
-fn true_kind(words: Words) -> Option<Evaluator>
-    ensures { option_map evaluator_of result ≡ by_kind (left words.entry) }
-{
-    Some(Evaluator::Kind(one::<InstructionKind>(words)?))
-}
-
-// The nodes that the only word left lists.
-fn true_nodes(heap: Global, words: Words) -> Result<Option<Evaluator>, AllocError>
-    ensures { IfOk result (λ e. option_map evaluator_of e ≡ by_nodes (left words.entry)) }
-{
-    let found = only_list(heap, words)?;
-    let Some(nodes) = found else {
-        return Ok(None);
-    };
-    Ok(Some(Evaluator::Nodes(nodes)))
 }

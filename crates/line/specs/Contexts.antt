@@ -1,13 +1,12 @@
 -- The labels and flags that words write. Assumes nothing.
 --
 --   label_of w          the label whose offset and length stand before and after the colon of w
---   optional_label w    that label, or none told by `-`
 --   no_flags            the flags of which none is set
 --   with_flag f w       the flags f with the one named w set
 --   flags_named f ws    the flags f with all those named by ws set, where each of ws is a name
 --   flags_of w          the flags whose names stand between the plus signs of w; none where w is `-`
-use Rattle.std.specs.Prelude.{ℕ, true, false, cond, List, [], ◌∷◌, Some, None, codes, Option}
-use Rattle.std.specs.Option.{option_map}
+use Rattle.std.specs.Prelude.{ℕ, true, false, cond, List, [], ◌∷◌, Some, codes, Option}
+use Rattle.std.specs.Option.{option_and_then, option_map}
 use Rattle.kinds.specs.declared.context.CtxFlags.{CtxFlags}
 use Rattle.kinds.specs.declared.context.Label.{Label}
 use Rattle.line.specs.Arguments.{dash, two_of}
@@ -17,9 +16,6 @@ use Rattle.line.specs.Words.{parts}
 
 abbrev pub label_of : List ℕ → Option Label
 label_of w = option_map (λ p. record { offset = p.0; length = p.1 }) (two_of number_of number_of (parts 58 w))
-
-abbrev pub optional_label : List ℕ → Option (Option Label)
-optional_label w = cond (dash w) (Some None) (option_map Some (label_of w))
 
 abbrev pub no_flags : CtxFlags
 no_flags = record { function = false; breaks = false; continues = false }
@@ -34,14 +30,9 @@ flag_names f =
 abbrev pub with_flag : CtxFlags → List ℕ → Option CtxFlags
 with_flag f w = chosen w (flag_names f)
 
--- the flags that the words ws add to f, if there is an f
-abbrev pub flags_after : (CtxFlags → Option CtxFlags) → Option CtxFlags → Option CtxFlags
-flags_after more None = None
-flags_after more (Some f) = more f
-
 abbrev pub flags_named : CtxFlags → List (List ℕ) → Option CtxFlags
 flags_named f [] = Some f
-flags_named f (w ∷ ws) = flags_after (λ g. flags_named g ws) (with_flag f w)
+flags_named f (w ∷ ws) = option_and_then (λ g. flags_named g ws) (with_flag f w)
 
 abbrev pub flags_of : List ℕ → Option CtxFlags
 flags_of w = cond (dash w) (Some no_flags) (flags_named no_flags (parts 43 w))

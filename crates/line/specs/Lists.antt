@@ -3,20 +3,15 @@
 --   numbers ws   the numbers that the words ws write, where each of them is a number; else none
 --   list_of w    the numbers that stand between the commas of w; no number where w is `-`
 --   only_list ws the list of the only word of ws
-use Rattle.std.specs.Prelude.{ℕ, cond, List, [], ◌∷◌, Some, None, Option}
-use Rattle.std.specs.Option.{option_map}
+use Rattle.std.specs.Prelude.{ℕ, cond, List, [], ◌∷◌, Some, Option}
+use Rattle.std.specs.Option.{option_map, option_zip}
 use Rattle.line.specs.Arguments.{dash, one_of}
 use Rattle.line.specs.Numbers.{number_of}
 use Rattle.line.specs.Words.{parts}
 
--- the number in front of the list, where both are there
-abbrev pub in_front : Option ℕ → Option (List ℕ) → Option (List ℕ)
-in_front None l = None
-in_front (Some n) l = option_map (λ ns. n ∷ ns) l
-
 abbrev pub numbers : List (List ℕ) → Option (List ℕ)
 numbers [] = Some []
-numbers (w ∷ ws) = in_front (number_of w) (numbers ws)
+numbers (w ∷ ws) = option_map (λ p. p.0 ∷ p.1) (option_zip (number_of w) (numbers ws))
 
 abbrev pub list_of : List ℕ → Option (List ℕ)
 list_of w = cond (dash w) (Some []) (numbers (parts 44 w))

@@ -2,11 +2,8 @@
 --
 --   value w       the number that the digits w write
 --   number_of w   that number, where w is digits only, one at least, and the number is below 2 ^ 32; else none
---   optional_number w   that number, or none told by `-`
 use Rattle.std.specs.Prelude.{ℕ, ◌+◌, ◌-◌, ◌*◌, ◌^◌, cond, ◌&&◌, List, [], ◌∷◌, length, Some, None, Option, nat_lt}
-use Rattle.std.specs.Option.{option_map}
 use Rattle.std.specs.Str.{all_ascii_digits}
-use Rattle.line.specs.Arguments.{dash}
 
 -- the digits read from the left, after the number n
 abbrev pub read_on : ℕ → List ℕ → ℕ
@@ -18,6 +15,3 @@ value w = read_on 0 w
 
 abbrev pub number_of : List ℕ → Option ℕ
 number_of w = cond (all_ascii_digits w && (nat_lt 0 (length w) && nat_lt (value w) (2 ^ 32))) (Some (value w)) None
-
-abbrev pub optional_number : List ℕ → Option (Option ℕ)
-optional_number w = cond (dash w) (Some None) (option_map Some (number_of w))

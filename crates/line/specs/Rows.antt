@@ -3,8 +3,7 @@
 --   Row C            a name, and the call or kind of type C that it makes, if it makes one
 --   named w x        the row of the name w that makes x
 --   chosen w rows    what the first row makes whose name is w; none where no row has it
---   Unnamed w rows   w is the name of none of the rows
-use Rattle.std.specs.Prelude.{ℕ, cond, List, [], ◌∷◌, None, Option, ◌≢◌}
+use Rattle.std.specs.Prelude.{ℕ, cond, List, [], ◌∷◌, None, Option}
 use Rattle.std.specs.Str.{bytes_eq}
 
 pub record Row (C : Type 0) : Type 0 where
@@ -17,7 +16,3 @@ named w x = record { name = w; makes = x }
 abbrev pub chosen : {C : Type 0} → List ℕ → List (Row C) → Option C
 chosen w [] = None
 chosen w (r ∷ rows) = cond (bytes_eq w r.name) r.makes (chosen w rows)
-
-abbrev pub Unnamed : {C : Type 0} → List ℕ → List (Row C) → Type 0
-Unnamed w [] = Unit {0}
-Unnamed w (r ∷ rows) = (w ≢ r.name) × Unnamed w rows

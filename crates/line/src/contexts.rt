@@ -1,6 +1,6 @@
 // Labels and flags of contexts, as a script's line has them.
 ghost use Rattle.std.specs.Prelude.{◌≡◌};
-ghost use Rattle.line.specs.Contexts.{label_of, optional_label, no_flags, with_flag, flags_named, flags_of};
+ghost use Rattle.line.specs.Contexts.{label_of, no_flags, with_flag, flags_named, flags_of};
 ghost use Rattle.line.specs.Cursor.{left};
 
 use crate::arguments::{Argument, is_dash, two};
@@ -9,28 +9,15 @@ use crate::words::Words;
 use kinds::context::{CtxFlags, Label};
 
 // `OFFSET:LENGTH`.
-fn label(word: &str) -> Option<Label>
-    ensures { result ≡ label_of word.now }
-{
-    let place = two::<u32, u32>(Words::split(word, Separator::Colon))?;
-    Some(Label {
-        offset: place.0 as usize,
-        length: place.1 as usize,
-    })
-}
+impl Argument for Label {
+    ghost reads = { label_of };
 
-// A label, or `-` for none.
-impl Argument for Option<Label> {
-    ghost reads = { optional_label };
-
-    fn read(word: &str) -> Option<Option<Label>> {
-        if is_dash(word) {
-            return Some(None);
-        }
-        let Some(label) = label(word) else {
-            return None;
-        };
-        Some(Some(label))
+    fn read(word: &str) -> Option<Label> {
+        let (offset, length) = two::<u32, u32>(Words::split(word, Separator::Colon))?;
+        Some(Label {
+            offset: offset as usize,
+            length: length as usize,
+        })
     }
 }
 

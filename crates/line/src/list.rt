@@ -4,7 +4,7 @@ ghost use Rattle.std.specs.Option.{option_map};
 ghost use Rattle.line.specs.Cursor.{left};
 ghost use Rattle.line.specs.Lists.{list_of, numbers, only_list};
 
-use crate::arguments::is_dash;
+use crate::arguments::{is_dash, only};
 use crate::number::number;
 use crate::separator::Separator;
 use crate::words::Words;
@@ -35,14 +35,11 @@ fn each_number(heap: Global, words: Words) -> Result<Option<Vec<u32>>, AllocErro
 }
 
 // The numbers that the only word left lists. O(n) in its length.
-pub fn only_list(heap: Global, mut words: Words) -> Result<Option<Vec<u32>>, AllocError>
+pub fn only_list(heap: Global, words: Words) -> Result<Option<Vec<u32>>, AllocError>
     ensures { IfOk result (λ l. option_map vec_items l ≡ only_list (left words.entry)) }
 {
-    let Some(word) = words.next() else {
-        return Ok(None);
-    };
-    if words.next().is_some() {
-        return Ok(None);
+    match only(words) {
+        Some(word) => list(heap, word),
+        None => Ok(None),
     }
-    list(heap, word)
 }

@@ -10,12 +10,12 @@ pub enum Separator {
     Colon,
 }
 
-impl Separator {
-    // The character that the separator is. O(1).
-    pub fn character(self) -> char
-        ensures { result ≡ byte_of self }
-    {
-        match self {
+// The character that a separator is. O(1).
+impl From<Separator> for char {
+    ghost from_gives = { λ s c. c ≡ byte_of s };
+
+    fn from(separator: Separator) -> char {
+        match separator {
             Separator::Blank => ' ',
             Separator::Comma => ',',
             Separator::Plus => '+',

@@ -1,18 +1,18 @@
 // The words of a line, and the parts of a word.
-ghost use Rattle.std.specs.Prelude.{◌≡◌, length};
-ghost use Rattle.line.specs.Cursor.{left, Takes};
+ghost use Rattle.std.specs.Prelude.{◌≡◌, ◌∷◌};
+ghost use Rattle.line.specs.Cursor.{left, parts_left};
 ghost use Rattle.line.specs.Separators.{byte_of};
 ghost use Rattle.line.specs.Words.{parts, words};
-ghost use Rattle.std.specs.Iterator.{at_most};
+ghost use Rattle.std.specs.Iterator.{YieldsFirstRef, item_count};
 
 use crate::separator::Separator;
 
 // What is left of a text, part by part: parts stand between single separators.
 #[derive(Clone, Copy)]
 pub struct Words<'a> {
-    rest: &'a str,
+    // the text from the next part on, or none after the last part
+    rest: Option<&'a str>,
     separator: Separator,
-    ended: bool,
 }
 
 impl<'a> Words<'a> {
@@ -28,9 +28,8 @@ impl<'a> Words<'a> {
         ensures { left result ≡ parts (byte_of separator) text.now }
     {
         Words {
-            rest: text,
+            rest: Some(text),
             separator,
-            ended: false,
         }
     }
 }
@@ -38,24 +37,23 @@ impl<'a> Words<'a> {
 impl<'a> Iterator for Words<'a> {
     type Item = &'a str;
 
-    ghost next_gives = { λ s r t. Takes (left s) r (left t) };
+    ghost next_gives = { YieldsFirstRef left };
 
-    ghost remaining = { λ s. at_most (length (left s)) };
+    ghost remaining = { item_count left };
 
     fn next(&mut self) -> Option<&'a str> {
-        if self.ended {
-            return None;
-        }
-        let separator = self.separator.character();
-        match self.rest.split_once(separator) {
-            Some((word, rest)) => {
-                self.rest = rest;
-                Some(word)
-            }
-            None => {
-                self.ended = true;
-                Some(self.rest)
-            }
-        }
+        let (word, rest) = cut(self.rest?, self.separator);
+        self.rest = rest;
+        Some(word)
+    }
+}
+
+// The first part of a text, and what stands after its separator, if there is one.
+fn cut<'a>(text: &'a str, separator: Separator) -> (&'a str, Option<&'a str>)
+    ensures { parts (byte_of separator) text.now ≡ result.0.now ∷ parts_left (byte_of separator) result.1 }
+{
+    match text.split_once(char::from(separator)) {
+        Some((word, rest)) => (word, Some(rest)),
+        None => (text, None),
     }
 }

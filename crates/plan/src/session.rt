@@ -26,39 +26,39 @@ impl fmt::Display for Reply {
     }
 }
 
-#[derive(Drop)]
-pub struct Session {
-    plan: BeltPlan,
+// How many lines were calls, how many of those were refused, and how many lines were no calls.
+#[derive(Clone, Copy, Default)]
+struct LineCounts {
     calls: u64,
     refused: u64,
     unknown: u64,
+}
+
+#[derive(Drop)]
+pub struct Session {
+    plan: BeltPlan,
+    lines: LineCounts,
 }
 
 impl Session {
     pub fn new() -> Session {
         Session {
             plan: BeltPlan::new(),
-            calls: 0,
-            refused: 0,
-            unknown: 0,
+            lines: LineCounts::default(),
         }
     }
 
     // Makes the call that a line writes. A line that is not UTF-8 is no call.
     pub fn answer(&mut self, line: &[u8]) -> Reply {
-        let call = match str::from_utf8(line) {
-            Ok(text) => read_call(text),
-            Err(_) => None,
-        };
-        let Some(call) = call else {
-            self.unknown = self.unknown.saturating_add(1);
+        let Some(call) = str::from_utf8(line).ok().and_then(read_call) else {
+            self.lines.unknown = self.lines.unknown.saturating_add(1);
             return Reply::Unknown;
         };
-        self.calls = self.calls.saturating_add(1);
+        self.lines.calls = self.lines.calls.saturating_add(1);
         match apply(&mut self.plan, call) {
             Ok(answer) => Reply::Answered(answer),
             Err(refusal) => {
-                self.refused = self.refused.saturating_add(1);
+                self.lines.refused = self.lines.refused.saturating_add(1);
                 Reply::Refused(refusal)
             }
         }
@@ -66,9 +66,7 @@ impl Session {
 
     pub fn summary(&self) -> Summary {
         Summary {
-            calls: self.calls,
-            refused: self.refused,
-            unknown: self.unknown,
+            lines: self.lines,
             feeding: self.plan.feeding_count(),
             transfers: self.plan.transfer_count(),
             locked: self.plan.locked_segments(),
@@ -79,9 +77,7 @@ impl Session {
 // The closing words.
 #[derive(Clone, Copy)]
 pub struct Summary {
-    calls: u64,
-    refused: u64,
-    unknown: u64,
+    lines: LineCounts,
     feeding: u32,
     transfers: u32,
     locked: Segments,
@@ -89,9 +85,11 @@ pub struct Summary {
 
 impl fmt::Display for Summary {
     fn fmt<W: fmt::Write>(&self, f: &mut fmt::Formatter<W>) -> fmt::Result {
-        let calls = self.calls;
-        let refused = self.refused;
-        let unknown = self.unknown;
+        let LineCounts {
+            calls,
+            refused,
+            unknown,
+        } = self.lines;
         let feeding = self.feeding;
         let transfers = self.transfers;
         let locked = Answer::Listed(self.locked);

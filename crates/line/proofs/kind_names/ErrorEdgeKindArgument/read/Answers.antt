@@ -1,9 +1,0 @@
--- No row has the name.
-use Rattle.line.specs.Kinds.{error_names}
-use Rattle.line.proofs.Names.{chosen_none}
-use Rattle.line.proofs.kind_names.ErrorEdgeKindArgument.read.Goals as goal
-
-pub returns-in_default : goal.returns-in_default
-returns-in_default c =
-    let other = c.in_default in
-    chosen_none c.args.word.now error_names (other.not-explicit, (other.not-implicit, tt))
