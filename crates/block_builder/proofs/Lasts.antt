@@ -5,9 +5,8 @@ use Rattle.std.proofs.lemmas.Option.{slice_get-get_or}
 use Rattle.std.specs.List.{slice_get}
 use Rattle.std.specs.Option.{option_flatten}
 use Rattle.block_builder.specs.BlockState.{BlockState, Performs, block_count, nothing, last_of, without_last, finalizer_mismatch, finalizer_release_refusal, finalizer_released, with_finalizers}
-use Rattle.blocks.specs.Highest.{highest}
+use Rattle.blocks.specs.Highest.{above, highest}
 use Rattle.kinds.specs.Replies.{after, told}
-use Rattle.store.specs.Links.{code}
 
 -- what holds of the highest holds of each
 under : {X : Type 0} (f : X → ℕ) (xs : List X) (i n : ℕ) → highest f xs ≤ n → MatchOption (slice_get xs i) (⊥ → ⊥) (λ x. f x ≤ n)
@@ -20,14 +19,14 @@ pub last_under : {X : Type 0} (f : X → ℕ) (xs : List X) (o : Option X) (n : 
 last_under f xs o n e h = rw e (under f xs (length xs - 1) n h)
 
 -- what holds of the highest holds of the last block of a stack with empty marks
-flatten_under : (o : Option (Option ℕ)) (n : ℕ) → MatchOption o (⊥ → ⊥) (λ x. code x ≤ n) → MatchOption (option_flatten o) (⊥ → ⊥) (λ b. b < n)
+flatten_under : (o : Option (Option ℕ)) (n : ℕ) → MatchOption o (⊥ → ⊥) (λ x. above x ≤ n) → MatchOption (option_flatten o) (⊥ → ⊥) (λ b. b < n)
 flatten_under None n h = λ z. z
 flatten_under (Some None) n h = λ z. z
 flatten_under (Some (Some b)) n h = omega arith
 
-pub finalizer_under : (xs : List (Option ℕ)) (r : Option ℕ) (n : ℕ) → r ≡ option_flatten (last_of xs) → highest code xs ≤ n
+pub finalizer_under : (xs : List (Option ℕ)) (r : Option ℕ) (n : ℕ) → r ≡ option_flatten (last_of xs) → highest above xs ≤ n
     → MatchOption r (⊥ → ⊥) (λ b. b < n)
-finalizer_under xs r n e h = rw e (flatten_under (last_of xs) n (last_under code xs (last_of xs) n refl h))
+finalizer_under xs r n e h = rw e (flatten_under (last_of xs) n (last_under above xs (last_of xs) n refl h))
 
 empty_rest : {X : Type 0} (xs : List X) → None ≡ last_of xs → without_last xs ≡ xs
 empty_rest [] e = refl

@@ -1,9 +1,8 @@
 // The builder's state but for the contexts.
 ghost use Rattle.std.specs.Prelude.{◌≤◌, length, vec_capacity};
 ghost use Rattle.block_builder.specs.BlockState.{above_harness};
-ghost use Rattle.blocks.specs.Highest.{highest};
+ghost use Rattle.blocks.specs.Highest.{above, highest};
 ghost use Rattle.blocks.specs.View.{graph_of};
-ghost use Rattle.store.specs.Links.{code};
 
 use crate::harness::ErrorHarness;
 use blocks::block_graph::BlockGraph;
@@ -23,5 +22,5 @@ pub struct BlockBuilder {
     ghost error_path_fits: { 64 ≤ vec_capacity error_path },
     ghost finalizers_fit: { 64 ≤ vec_capacity finalizers },
     ghost harnesses_known: { highest above_harness error_path.items ≤ length (graph_of graph).marks },
-    ghost finalizers_known: { highest code finalizers.items ≤ length (graph_of graph).marks },
+    ghost finalizers_known: { highest above finalizers.items ≤ length (graph_of graph).marks },
 }

@@ -1,7 +1,6 @@
 -- The highest number of a list, as the list grows or shrinks.
 use Rattle.std.proofs.Common.{◌≡◌, ℕ, zero, suc, ◌-◌, ◌<◌, ◌≤◌, max, List, [], ◌∷◌, ◌++◌, length, get_or, take, Some, None, Option, ap, arith, MatchOption}
-use Rattle.store.specs.Links.{code}
-use Rattle.blocks.specs.Highest.{highest}
+use Rattle.blocks.specs.Highest.{highest, above}
 
 pub highest_push : {X : Type 0} (f : X → ℕ) (xs : List X) (x : X) → highest f (xs ++ x ∷ []) ≡ max (highest f xs) (f x)
 highest_push f [] x = omega arith
@@ -17,9 +16,9 @@ highest_take f zero xs = omega arith
 highest_take f (suc j) [] = omega arith
 highest_take f (suc j) (x ∷ xs) = let h = highest_take f j xs in omega arith
 
-pub code_known : (o : Option ℕ) (n : ℕ) → code o ≤ n → MatchOption o (⊥ → ⊥) (λ b. b < n)
-code_known None n l = λ z. z
-code_known (Some b) n l = omega arith
+pub above_known : (o : Option ℕ) (n : ℕ) → above o ≤ n → MatchOption o (⊥ → ⊥) (λ b. b < n)
+above_known None n l = λ z. z
+above_known (Some b) n l = omega arith
 
 -- what holds of the highest holds of the last
 pub last_under : {X : Type 0} (f : X → ℕ) (ys xs : List X) (x : X) (n : ℕ) → ys ≡ xs → 0 < length ys → x ≡ get_or ys (length ys - 1) x → highest f xs ≤ n

@@ -12,6 +12,7 @@ use Rattle.book.specs.Ledger.{Fate, Unfiled, Waiting, Drawn, Untargeted, Given, 
 use Rattle.book.specs.declared.call.Call.{Call}
 use Rattle.book.specs.declared.call.Call.TheVariants as call
 use Rattle.contexts.specs.Contexts.{Context, Entry, with_target, with_flag, opened, top_number, top_continue, upper_label, resolve_counts, waiting_count}
+use Rattle.kinds.specs.Flags.{no_flags}
 use Rattle.kinds.specs.Replies.{after}
 use Rattle.kinds.specs.declared.block.InstructionKind.TheVariants as instruction
 use Rattle.kinds.specs.declared.context.EntryKind.{EntryKind}
@@ -249,7 +250,7 @@ law_done (call.Append j n b) k l h =
     law_filed j k.blocks.current (context_for j b k) _ l (found_within k.text j b k.contexts)
     (law_blocks k l _ (no_jumps_terminator (book.instruction_of j b) (Some n) k.blocks) h)
 law_done (call.New b f) k l h = law_opened k l (opened f b) refl h
-law_done (call.Default b) k l h = law_opened k l (opened book.no_flags b) refl h
+law_done (call.Default b) k l h = law_opened k l (opened no_flags b) refl h
 law_done (call.NewFunction b) k l h = law_opened k l (opened book.function_flags b) refl h
 law_done (call.File j b) k l h = law_filed j k.blocks.current (context_for j b k) k l (found_within k.text j b k.contexts) h
 law_done (call.FileOnTop j) k l h = law_filed j k.blocks.current (top_number k.contexts) k l (top_within k.contexts) h

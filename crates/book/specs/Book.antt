@@ -20,6 +20,7 @@ use Rattle.book.specs.declared.reply.Reply.{Reply}
 use Rattle.book.specs.declared.reply.Reply.TheVariants.{Refused, Done, Block, Found, Resolved, Tallied}
 use Rattle.book.specs.declared.reply.Tally.{Tally}
 use Rattle.contexts.specs.Contexts.{Context, label_fits, found, target_at, with_target, with_entry, with_flag, opened, changed_at, top_number, top_flags, top_continue, below_top, upper_label, resolve_counts, top_drawn, waiting_count}
+use Rattle.kinds.specs.Flags.{no_flags}
 use Rattle.kinds.specs.Replies.{row, after, told}
 use Rattle.kinds.specs.declared.block.InstructionKind.{InstructionKind}
 use Rattle.kinds.specs.declared.block.InstructionKind.TheVariants as instruction
@@ -134,9 +135,6 @@ jump_appended j n l k =
     filed j k.blocks.current (context_for j l k) (with_blocks (state.terminator_appended (instruction_of j l) (Some n) k.blocks) k)
 
 -- new, default and new_function
-abbrev pub no_flags : CtxFlags
-no_flags = record { function = false; breaks = false; continues = false }
-
 abbrev pub function_flags : CtxFlags
 function_flags = record { function = true; breaks = false; continues = false }
 

@@ -14,13 +14,12 @@
 use Rattle.std.specs.Prelude.{ℕ, suc, ◌+◌, max, Bool, true, false, cond, not, ◌&&◌, List, [], ◌∷◌, ◌++◌, length, take, drop, is_some, Some, None, count_by, Option, ◌==◌, nat_le}
 use Rattle.std.specs.Str.{bytes_eq}
 use Rattle.blocks.specs.Blocks.{GraphState, edge_added}
-use Rattle.blocks.specs.Highest.{highest}
+use Rattle.blocks.specs.Highest.{above, highest}
 use Rattle.kinds.specs.declared.context.CtxFlags.{CtxFlags}
 use Rattle.kinds.specs.declared.context.EntryKind.{EntryKind}
 use Rattle.kinds.specs.declared.context.EntryKind.TheVariants.{Break, Continue}
 use Rattle.kinds.specs.declared.context.Label.{Label}
 use Rattle.kinds.specs.declared.edge.EdgeType.TheVariants.{Jump}
-use Rattle.store.specs.Links.{code}
 
 pub record Entry : Type 0 where
   pub kind : EntryKind
@@ -167,4 +166,4 @@ abbrev pub above_entry : Entry → ℕ
 above_entry e = suc e.block
 
 abbrev pub block_bound : Context → ℕ
-block_bound c = max (max (code c.break_target) (code c.continue_target)) (highest above_entry c.entries)
+block_bound c = max (max (above c.break_target) (above c.continue_target)) (highest above_entry c.entries)

@@ -1,3 +1,4 @@
+pub mod Flags
+pub mod Instructions
 pub mod Numbers
 pub mod Replies
-pub mod Instructions

@@ -11,6 +11,15 @@ pub struct CtxFlags {
     pub continues: bool,
 }
 
+impl CtxFlags {
+    // no flag
+    pub const NONE: CtxFlags = CtxFlags {
+        function: false,
+        breaks: false,
+        continues: false,
+    };
+}
+
 // A label: a part of the one text, by its place. Two labels are the same where their bytes are.
 #[derive(Clone, Copy)]
 pub struct Label {

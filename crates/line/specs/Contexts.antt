@@ -1,12 +1,12 @@
 -- The labels and flags that words write. Assumes nothing.
 --
 --   label_of w          the label whose offset and length stand before and after the colon of w
---   no_flags            the flags of which none is set
 --   with_flag f w       the flags f with the one named w set
 --   flags_named f ws    the flags f with all those named by ws set, where each of ws is a name
 --   flags_of w          the flags whose names stand between the plus signs of w; none where w is `-`
-use Rattle.std.specs.Prelude.{ℕ, true, false, cond, List, [], ◌∷◌, Some, codes, Option}
+use Rattle.std.specs.Prelude.{ℕ, true, cond, List, [], ◌∷◌, Some, codes, Option}
 use Rattle.std.specs.Option.{option_and_then, option_map}
+use Rattle.kinds.specs.Flags.{no_flags}
 use Rattle.kinds.specs.declared.context.CtxFlags.{CtxFlags}
 use Rattle.kinds.specs.declared.context.Label.{Label}
 use Rattle.line.specs.Arguments.{dash, two_of}
@@ -16,9 +16,6 @@ use Rattle.line.specs.Words.{parts}
 
 abbrev pub label_of : List ℕ → Option Label
 label_of w = option_map (λ p. record { offset = p.0; length = p.1 }) (two_of number_of number_of (parts 58 w))
-
-abbrev pub no_flags : CtxFlags
-no_flags = record { function = false; breaks = false; continues = false }
 
 abbrev pub flag_names : CtxFlags → List (Row CtxFlags)
 flag_names f =

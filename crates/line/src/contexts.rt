@@ -1,6 +1,7 @@
 // Labels and flags of contexts, as a script's line has them.
 ghost use Rattle.std.specs.Prelude.{◌≡◌};
-ghost use Rattle.line.specs.Contexts.{label_of, no_flags, with_flag, flags_named, flags_of};
+ghost use Rattle.kinds.specs.Flags.{no_flags};
+ghost use Rattle.line.specs.Contexts.{label_of, with_flag, flags_named, flags_of};
 ghost use Rattle.line.specs.Cursor.{left};
 
 use crate::arguments::{Argument, is_dash, two};
@@ -20,12 +21,6 @@ impl Argument for Label {
         })
     }
 }
-
-const NO_FLAGS: CtxFlags = CtxFlags {
-    function: false,
-    breaks: false,
-    continues: false,
-};
 
 // The flags with the one of a name set.
 fn with_flag(flags: CtxFlags, name: &str) -> Option<CtxFlags>
@@ -52,7 +47,7 @@ fn with_flag(flags: CtxFlags, name: &str) -> Option<CtxFlags>
 fn flags(words: Words) -> Option<CtxFlags>
     ensures { result ≡ flags_named no_flags (left words.entry) }
 {
-    let mut flags = NO_FLAGS;
+    let mut flags = CtxFlags::NONE;
     for name in words {
         flags = with_flag(flags, name)?;
     }
@@ -65,7 +60,7 @@ impl Argument for CtxFlags {
 
     fn read(word: &str) -> Option<CtxFlags> {
         if is_dash(word) {
-            return Some(NO_FLAGS);
+            return Some(CtxFlags::NONE);
         }
         flags(Words::split(word, Separator::Plus))
     }

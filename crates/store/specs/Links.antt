@@ -1,12 +1,11 @@
 -- How the store's two tables are tied together. Assumes nothing.
 --
 --   edges_in ls      the edges of a table of links, in the order made
---   code o           one more than a number, 0 for none
 --   toward d p       the one of the two values p that is for the direction d
 --   Firsts d ns es   each node keeps the number of its newest edge in the direction d
 --   Nexts d ls       each edge keeps the number of the newest of those made before it at the same block
 --   Within d ns ls   every edge is at a node
-use Rattle.std.specs.Prelude.{◌≡◌, ℕ, suc, ◌<◌, List, map, length, get_or, take, Some, None, Option, slice_index_or}
+use Rattle.std.specs.Prelude.{◌≡◌, ℕ, ◌<◌, List, map, length, get_or, take, slice_index_or}
 use Rattle.std.specs.List.{All}
 use Rattle.kinds.specs.declared.edge.Edge.{Edge}
 use Rattle.store.specs.Edges.{block_at, newest}
@@ -15,10 +14,6 @@ use Rattle.store.specs.declared.direction.Direction.TheVariants.{Outgoing, Incom
 use Rattle.store.specs.declared.direction.PerDirection.{PerDirection}
 use Rattle.store.specs.declared.link.Link.{Link}
 use Rattle.store.specs.declared.link.Node.{Node}
-
-abbrev pub code : Option ℕ → ℕ
-code None = 0
-code (Some k) = suc k
 
 abbrev pub edges_in : List Link → List Edge
 edges_in ls = map (λ l. l.edge) ls

@@ -8,7 +8,7 @@ ghost use Rattle.contexts.specs.Contexts.{label_fits, waiting_count, upper_label
 ghost use Rattle.kinds.specs.Replies.{row, told};
 ghost use Rattle.kinds.specs.declared.context.EntryKind.TheVariants.{Break, Continue};
 ghost use Rattle.kinds.specs.declared.refusal.Refusal.TheVariants.{BadLabel};
-ghost use Rattle.store.specs.Links.{code};
+ghost use Rattle.blocks.specs.Highest.{above};
 
 use super::ControlFlowGraphBuilder;
 use block_builder::room::Room;
@@ -68,14 +68,7 @@ impl<'a> ControlFlowGraphBuilder<'a> {
     pub fn default_ctx(&mut self, label: Option<Label>) -> Result<(), Refusal>
         ensures { Follows (call.Default label) no_reply (book_of self.old) (book_of self.new) result }
     {
-        self.new_ctx(
-            label,
-            CtxFlags {
-                function: false,
-                breaks: false,
-                continues: false,
-            },
-        )
+        self.new_ctx(label, CtxFlags::NONE)
     }
 
     // Opens the context of a function. O(1).
@@ -86,8 +79,7 @@ impl<'a> ControlFlowGraphBuilder<'a> {
             label,
             CtxFlags {
                 function: true,
-                breaks: false,
-                continues: false,
+                ..CtxFlags::NONE
             },
         )
     }
@@ -338,7 +330,7 @@ impl<'a> ControlFlowGraphBuilder<'a> {
 
     // Gives a continue target to the topmost context, if that is labelled and has none.
     fn give_continue(&mut self, target: Option<BlockNodeId>)
-        requires { code target ≤ block_count (book_of self.old).blocks }
+        requires { above target ≤ block_count (book_of self.old).blocks }
         ensures { book_of self.new ≡ with_contexts (continue_given target (upper_label (book_of self.old).contexts) (book_of self.old).contexts) (book_of self.old) }
     {
         if let (Some(target), Some(context)) = (target, self.contexts.upper_label()) {

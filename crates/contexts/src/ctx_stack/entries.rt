@@ -1,10 +1,9 @@
 // Loops over the entries of all contexts.
 ghost use Rattle.std.specs.Prelude.{◌≡◌, ◌+◌, ◌<◌, ◌≤◌, cond, not, length, vec_capacity, count_by, filter};
 ghost use Rattle.blocks.specs.Blocks.{Grown};
-ghost use Rattle.blocks.specs.Highest.{highest};
+ghost use Rattle.blocks.specs.Highest.{above, highest};
 ghost use Rattle.blocks.specs.View.{graph_of};
 ghost use Rattle.contexts.specs.Tables.{waits_in, draws, lacks, one_drawn, all_drawn, above_block};
-ghost use Rattle.store.specs.Links.{code};
 
 use crate::ctx::{Top, WaitingEntry};
 use blocks::block_graph::BlockGraph;
@@ -29,8 +28,8 @@ pub(super) fn counts(waiting: &[WaitingEntry], top: Top) -> (usize, usize)
 // Draws the Jump edge of an entry of the context, if it has a target.
 fn draw_one(graph: &mut BlockGraph, entry: WaitingEntry, top: Top)
     requires block { entry.block < length (graph_of graph.old).marks }
-    requires breaks { code top.ctx.break_jmp ≤ length (graph_of graph.old).marks }
-    requires continues { code top.ctx.continue_jmp ≤ length (graph_of graph.old).marks }
+    requires breaks { above top.ctx.break_jmp ≤ length (graph_of graph.old).marks }
+    requires continues { above top.ctx.continue_jmp ≤ length (graph_of graph.old).marks }
     requires room { length (graph_of graph.old).edges + cond (draws top.number top.ctx entry) 1 0 ≤ 2048 }
     ensures sizes { Grown 0 (cond (draws top.number top.ctx entry) 1 0) 0 (graph_of graph.old) (graph_of graph.new) }
     ensures graph { graph_of graph.new ≡ one_drawn top.number top.ctx entry (graph_of graph.old) }
@@ -45,8 +44,8 @@ fn draw_one(graph: &mut BlockGraph, entry: WaitingEntry, top: Top)
 // Draws the Jump edges of the entries of the context, in their order.
 pub(super) fn draw(graph: &mut BlockGraph, waiting: &[WaitingEntry], top: Top)
     requires blocks { highest above_block waiting.now ≤ length (graph_of graph.old).marks }
-    requires breaks { code top.ctx.break_jmp ≤ length (graph_of graph.old).marks }
-    requires continues { code top.ctx.continue_jmp ≤ length (graph_of graph.old).marks }
+    requires breaks { above top.ctx.break_jmp ≤ length (graph_of graph.old).marks }
+    requires continues { above top.ctx.continue_jmp ≤ length (graph_of graph.old).marks }
     requires room { length (graph_of graph.old).edges + count_by (draws top.number top.ctx) waiting.now ≤ 2048 }
     ensures sizes { Grown 0 (count_by (draws top.number top.ctx) waiting.now) 0 (graph_of graph.old) (graph_of graph.new) }
     ensures graph { graph_of graph.new ≡ all_drawn top.number top.ctx waiting.now (graph_of graph.old) }

@@ -1,12 +1,11 @@
 // The topmost context, and what resolving it draws. All of it is for the layers above.
 ghost use Rattle.std.specs.Prelude.{◌≡◌, ◌+◌, ◌<◌, ◌≤◌, length, MatchOption};
 ghost use Rattle.blocks.specs.Blocks.{Grown};
-ghost use Rattle.blocks.specs.Highest.{highest};
+ghost use Rattle.blocks.specs.Highest.{above, highest};
 ghost use Rattle.blocks.specs.View.{graph_of};
 ghost use Rattle.contexts.specs.Contexts.{top_number, top_flags, top_continue, below_top, upper_label, resolve_counts, drawn_of, top_drawn, waiting_count, block_bound};
 ghost use Rattle.contexts.specs.Tables.{TopIs};
 ghost use Rattle.contexts.specs.View.{contexts_of};
-ghost use Rattle.store.specs.Links.{code};
 
 use super::{CtxStack, entries};
 use crate::ctx::Top;
@@ -44,7 +43,7 @@ impl<'a> CtxStack<'a> {
     // The continue target of the topmost context, if one is open and it is marked. O(1).
     pub fn top_continue(&self) -> Option<BlockNodeId>
         ensures value { result ≡ top_continue (contexts_of self.now) }
-        ensures known { code result ≤ highest block_bound (contexts_of self.now) }
+        ensures known { above result ≤ highest block_bound (contexts_of self.now) }
     {
         self.last()?.ctx.continue_jmp
     }

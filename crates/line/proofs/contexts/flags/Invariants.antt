@@ -1,6 +1,7 @@
 -- The flags so far, and those that the words left name.
 use Rattle.std.proofs.Common.{◌≡◌}
-use Rattle.line.specs.Contexts.{flags_named, no_flags}
+use Rattle.kinds.specs.Flags.{no_flags}
+use Rattle.line.specs.Contexts.{flags_named}
 use Rattle.line.specs.Cursor.{left}
 use Rattle.line.proofs.contexts.flags.Given as goal
 
