@@ -7,13 +7,14 @@ ghost use Rattle.call_script.specs.Lines.{block_calls};
 use book::call::Call;
 use kinds::edge::{EdgeType, ErrorEdgeKind};
 use line::arguments::{alone, one, three};
-use line::words::Words;
+use line::words::Command;
 
 // The call of that name, with what the words left stand for.
-pub fn read_block_call(name: &str, words: Words) -> Option<Call>
-    ensures { result ≡ chosen name.now (block_calls (left words.entry)) }
+pub fn read_block_call(command: Command) -> Option<Call>
+    ensures { result ≡ chosen command.entry.name.now (block_calls (left command.entry.words)) }
 {
-    match name {
+    let words = command.words;
+    match command.name {
         "attach_error_harness" => Some(Call::AttachErrorHarness(one::<ErrorEdgeKind>(words)?)),
         "release_error_harness" => Some(Call::ReleaseErrorHarness(one::<u32>(words)?)),
         "attach_finalizer" => alone(Call::AttachFinalizer, words),

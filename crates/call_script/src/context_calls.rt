@@ -7,13 +7,14 @@ ghost use Rattle.call_script.specs.Lines.{context_calls, entry_calls};
 use book::call::Call;
 use kinds::context::{CtxFlags, EntryKind, Label};
 use line::arguments::{alone, one, two};
-use line::words::Words;
+use line::words::Command;
 
 // The call of that name that opens a context or resolves one, with what the words left stand for.
-pub fn read_context_call(name: &str, words: Words) -> Option<Call>
-    ensures { result ≡ chosen name.now (context_calls (left words.entry)) }
+pub fn read_context_call(command: Command) -> Option<Call>
+    ensures { result ≡ chosen command.entry.name.now (context_calls (left command.entry.words)) }
 {
-    match name {
+    let words = command.words;
+    match command.name {
         "ctx_new" => {
             let (label, flags) = two::<Option<Label>, CtxFlags>(words)?;
             Some(Call::New(label, flags))
@@ -29,10 +30,11 @@ pub fn read_context_call(name: &str, words: Words) -> Option<Call>
 }
 
 // The call of that name that files a break or a continue, marks a target or sets a flag.
-pub fn read_entry_call(name: &str, words: Words) -> Option<Call>
-    ensures { result ≡ chosen name.now (entry_calls (left words.entry)) }
+pub fn read_entry_call(command: Command) -> Option<Call>
+    ensures { result ≡ chosen command.entry.name.now (entry_calls (left command.entry.words)) }
 {
-    match name {
+    let words = command.words;
+    match command.name {
         "break" => Some(Call::File(EntryKind::Break, one::<Option<Label>>(words)?)),
         "continue" => Some(Call::File(EntryKind::Continue, one::<Option<Label>>(words)?)),
         "mark_break" => {

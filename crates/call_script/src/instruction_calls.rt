@@ -8,13 +8,14 @@ use book::call::Call;
 use kinds::block::{IterationInstructionKind, ReturnInstructionKind};
 use kinds::context::{EntryKind, Label};
 use line::arguments::{alone, one, two};
-use line::words::Words;
+use line::words::Command;
 
 // The call of that name, with what the words left stand for.
-pub fn read_instruction_call(name: &str, words: Words) -> Option<Call>
-    ensures { result ≡ chosen name.now (instruction_calls (left words.entry)) }
+pub fn read_instruction_call(command: Command) -> Option<Call>
+    ensures { result ≡ chosen command.entry.name.now (instruction_calls (left command.entry.words)) }
 {
-    match name {
+    let words = command.words;
+    match command.name {
         "push_statement" => Some(Call::PushStatement(one::<u32>(words)?)),
         "enter_statement" => Some(Call::EnterStatement(one::<u32>(words)?)),
         "push_return" => {

@@ -7,16 +7,15 @@ use crate::block_calls::read_block_call;
 use crate::context_calls::{read_context_call, read_entry_call};
 use crate::instruction_calls::read_instruction_call;
 use book::call::Call;
-use line::words::Words;
+use line::words::Command;
 
 // The call on the builder that a line makes, or none where it makes none. O(n) in the line's length.
 pub fn read_call(line: &str) -> Option<Call>
     ensures { result ≡ call_of (words line.now) }
 {
-    let mut words = Words::new(line);
-    let name = words.next()?;
-    read_block_call(name, words)
-        .or(read_instruction_call(name, words))
-        .or(read_context_call(name, words))
-        .or(read_entry_call(name, words))
+    let command = Command::new(line);
+    read_block_call(command)
+        .or(read_instruction_call(command))
+        .or(read_context_call(command))
+        .or(read_entry_call(command))
 }

@@ -12,35 +12,32 @@ use kinds::block::InstructionKind;
 use line::arguments::{alone, one};
 use line::list::only_list;
 use line::number::number;
-use line::words::Words;
+use line::words::{Command, Words};
 use std::alloc::{AllocError, Global};
 
 // The question that a line asks of the built graph, or none where it asks none. O(n) in the line's length.
 pub fn read_graph_query(heap: Global, line: &str) -> Result<Option<GraphQuery>, AllocError>
     ensures { IfOk result (λ q. option_map asked_of q ≡ query_of (words line.now)) }
 {
-    let mut words = Words::new(line);
-    match words.next() {
-        Some(name) => read_named(heap, name, words),
-        None => Ok(None),
-    }
+    read_named(heap, Command::new(line))
 }
 
 // The question of that name, with what the words left stand for.
-fn read_named(heap: Global, name: &str, words: Words) -> Result<Option<GraphQuery>, AllocError>
-    ensures { IfOk result (λ q. option_map asked_of q ≡ named_query name.now (left words.entry)) }
+fn read_named(heap: Global, command: Command) -> Result<Option<GraphQuery>, AllocError>
+    ensures { IfOk result (λ q. option_map asked_of q ≡ named_query command.entry.name.now (left command.entry.words)) }
 {
-    match name {
-        "is_infinite_loop_start" => read_loop_query(heap, words),
-        _ => Ok(read_plain(name, words)),
+    match command.name {
+        "is_infinite_loop_start" => read_loop_query(heap, command.words),
+        _ => Ok(read_plain(command)),
     }
 }
 
 // A question that takes no list.
-fn read_plain(name: &str, words: Words) -> Option<GraphQuery>
-    ensures { option_map asked_of result ≡ chosen name.now (reads (left words.entry)) }
+fn read_plain(command: Command) -> Option<GraphQuery>
+    ensures { option_map asked_of result ≡ chosen command.entry.name.now (reads (left command.entry.words)) }
 {
-    match name {
+    let words = command.words;
+    match command.name {
         "blocks" => alone(GraphQuery::Blocks, words),
         "edges" => alone(GraphQuery::Edges, words),
         "block" => Some(GraphQuery::Block(one::<u32>(words)?)),

@@ -48,6 +48,27 @@ impl<'a> Iterator for Words<'a> {
     }
 }
 
+// A line as a command: its first word, and the words after it.
+#[derive(Clone, Copy)]
+pub struct Command<'a> {
+    pub name: &'a str,
+    pub words: Words<'a>,
+}
+
+impl<'a> Command<'a> {
+    // The command that a line gives; every line has a first word. O(n) in its length.
+    pub fn new(line: &'a str) -> Command<'a>
+        ensures { words line.now ≡ result.name.now ∷ left result.words }
+    {
+        let separator = Separator::Blank;
+        let (name, rest) = cut(line, separator);
+        Command {
+            name,
+            words: Words { rest, separator },
+        }
+    }
+}
+
 // The first part of a text, and what stands after its separator, if there is one.
 fn cut<'a>(text: &'a str, separator: Separator) -> (&'a str, Option<&'a str>)
     ensures { parts (byte_of separator) text.now ≡ result.0.now ∷ parts_left (byte_of separator) result.1 }

@@ -6,22 +6,21 @@ ghost use Rattle.plan_script.specs.Lines.{call_of, call_named};
 
 use crate::call::PlanCall;
 use line::arguments::{alone, one, two};
-use line::words::Words;
+use line::words::Command;
 
 // The call that a line makes, or none where it is no call. O(n) in the line's length.
 pub fn read_call(line: &str) -> Option<PlanCall>
     ensures { result ≡ call_of (words line.now) }
 {
-    let mut words = Words::new(line);
-    let name = words.next()?;
-    read_named(name, words)
+    read_named(Command::new(line))
 }
 
 // The call of that name, with the numbers that the words left write.
-fn read_named(name: &str, words: Words) -> Option<PlanCall>
-    ensures { result ≡ call_named name.now (left words.entry) }
+fn read_named(command: Command) -> Option<PlanCall>
+    ensures { result ≡ call_named command.entry.name.now (left command.entry.words) }
 {
-    match name {
+    let words = command.words;
+    match command.name {
         "set_transfer" => {
             let (from, to) = two::<u32, u32>(words)?;
             Some(PlanCall::SetTransfer(from, to))

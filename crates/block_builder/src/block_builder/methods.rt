@@ -1,5 +1,5 @@
 // The graph and the current block.
-ghost use Rattle.std.specs.Prelude.{◌≡◌, ◌+◌, ◌<◌, ◌≤◌, true, false, length, None, IfOk, nat_lt};
+ghost use Rattle.std.specs.Prelude.{◌≡◌, ◌+◌, ◌<◌, ◌≤◌, length, None, IfOk, nat_lt};
 ghost use Rattle.block_builder.specs.BlockState as state;
 ghost use Rattle.block_builder.specs.BlockState.{Performs, Fits, initial, block_count, nothing};
 ghost use Rattle.block_builder.specs.View.{state_of};
@@ -109,21 +109,16 @@ impl BlockBuilder {
         Ok(())
     }
 
-    // Marks one block reachable. O(1).
-    pub fn mark_as_reachable(&mut self, block: BlockNodeId) -> Result<(), Refusal>
-        ensures { Performs (state.block_refusal block) (state.marked block false) nothing (state_of self.old) (state_of self.new) result }
+    // Marks one block unreachable or reachable. O(1).
+    pub fn set_unreachable(
+        &mut self,
+        block: BlockNodeId,
+        unreachable: bool,
+    ) -> Result<(), Refusal>
+        ensures { Performs (state.block_refusal block) (state.marked block unreachable) nothing (state_of self.old) (state_of self.new) result }
     {
         self.check_block(block)?;
-        self.graph.set_unreachable(block, false);
-        Ok(())
-    }
-
-    // Marks one block unreachable. O(1).
-    pub fn mark_as_unreachable(&mut self, block: BlockNodeId) -> Result<(), Refusal>
-        ensures { Performs (state.block_refusal block) (state.marked block true) nothing (state_of self.old) (state_of self.new) result }
-    {
-        self.check_block(block)?;
-        self.graph.set_unreachable(block, true);
+        self.graph.set_unreachable(block, unreachable);
         Ok(())
     }
 

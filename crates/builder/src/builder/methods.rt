@@ -139,14 +139,14 @@ impl<'a> ControlFlowGraphBuilder<'a> {
     pub fn mark_as_reachable(&mut self, block: BlockNodeId) -> Result<(), Refusal>
         ensures { Follows (call.MarkAsReachable block) no_reply (book_of self.old) (book_of self.new) result }
     {
-        self.blocks.mark_as_reachable(block)
+        self.blocks.set_unreachable(block, false)
     }
 
     // Marks one block unreachable, and no other. O(1).
     pub fn mark_as_unreachable(&mut self, block: BlockNodeId) -> Result<(), Refusal>
         ensures { Follows (call.MarkAsUnreachable block) no_reply (book_of self.old) (book_of self.new) result }
     {
-        self.blocks.mark_as_unreachable(block)
+        self.blocks.set_unreachable(block, true)
     }
 
     // Adds an edge; its target's mark is set first, by the edges that came in before. O(1).
