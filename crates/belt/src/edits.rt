@@ -1,4 +1,4 @@
-// The edits of a belt plan.
+// The edits of a belt plan. Setting and clearing are calls of their own, as a script has them, over one function each.
 ghost use Rattle.std.specs.Prelude.{◌≡◌, true, false, Ok};
 ghost use Rattle.kinds.specs.Replies.{after, told};
 ghost use Rattle.belt.specs.Edits.{with_transfer, with_lock, TransferIs, LockIs};

@@ -14,7 +14,7 @@ use kinds::refusal::Refusal;
 use store::direction::Direction;
 use store::edges::Edges;
 
-// Who says whether an instruction is a condition that always holds.
+// Who says whether an instruction is a condition that always holds, by a trait and not a closure, as the query is defined by a function of it.
 pub trait EvalConstCondition {
     // whether it finds an instruction true
     ghost holds: { Self → AnInstruction → Bool };

@@ -73,7 +73,7 @@ impl Top {
     }
 }
 
-// An entry that waits in the open context of a number, counted from the bottom.
+// An entry that waits in the open context of a number, counted from the bottom. One table of a fixed size has the entries of all contexts.
 #[derive(Clone, Copy)]
 pub struct WaitingEntry {
     pub context: usize,

@@ -32,7 +32,7 @@ pub enum Refusal {
 }
 
 impl Refusal {
-    // The number by which a script's answer tells the refusal. O(1).
+    // The number by which a script's answer tells the refusal, beside its name; programs tell it by the variant. O(1).
     pub fn number(self) -> u32
         ensures { result ≡ number_of self }
     {

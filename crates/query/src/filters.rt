@@ -18,7 +18,7 @@ impl Filter for PassAll {
     }
 }
 
-// Prunes the steps that leave one of the blocks.
+// Prunes the steps that leave one of the blocks. A type of its own beside Border: the reply is all that either says.
 #[derive(Clone, Copy)]
 pub struct ClosedBlocks<'a> {
     pub blocks: &'a [u32],

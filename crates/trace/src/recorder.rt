@@ -4,7 +4,7 @@ use walk::event::DfsEvent;
 
 pub mod visits;
 
-// The first `used` entries of the log are the events heard, as far as the log is long enough.
+// The first `used` entries of the log are the events heard, as far as the log is long enough. The log is lent: a Vec would allocate.
 #[derive(Drop)]
 pub struct Recorder<'a, 'b, 'c> {
     pub options: TraceOptions<'a, 'b>,

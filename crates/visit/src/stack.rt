@@ -2,7 +2,7 @@
 ghost use Rattle.std.specs.Prelude.{◌≡◌, ◌+◌, ◌<◌, ◌≤◌, ◌∷◌, length};
 ghost use Rattle.visit.specs.Held.{Popped, held};
 
-// The first `used` slots, of which the last is the top.
+// The first `used` slots, of which the last is the top. The slots are lent: a Vec would allocate.
 #[derive(Drop)]
 pub struct Stack<'a, T> {
     pub slots: &'a mut [T],

@@ -1,4 +1,5 @@
 // Contexts, and the breaks and continues that lead out of them. Each call does what the book says of it, refused or not.
+// A break and a continue have calls of their own, by the reference's names, each in one line over the call of the kind.
 ghost use Rattle.std.specs.Prelude.{◌≡◌, ◌+◌, ◌<◌, ◌≤◌, true, length, None, IfOk, MatchOption};
 ghost use Rattle.block_builder.specs.BlockState.{block_count, count_of};
 ghost use Rattle.book.specs.Book.{Follows, bad_label, no_reply, entries_full, filed, instruction_of, found_for, yes, counts_of, beyond as beyond-of, with_contexts, continue_given};
