@@ -1,5 +1,8 @@
 -- One turn of the walk leaves the end it is bound for as it was.
-use Rattle.std.proofs.Common.{◌≡◌, ℕ, ◌+◌, ◌<◌, ◌⊎◌, List, [], ◌∷◌, length, get_or, set, Some, None, sym, ap, ◌∙◌, subst, inl, inr, arith, length-set}
+use Rattle.std.proofs.Common.{◌≡◌, ℕ, Bool, true, false, ◌+◌, ◌<◌, List, [], ◌∷◌, length, get_or, set, Some, None, sym, refl, ap, ◌∙◌, subst, arith, length-set}
+use Rattle.std.specs.ControlFlow.{break_value}
+use Rattle.std.specs.declared.ops.ControlFlow.{ControlFlow}
+use Rattle.std.specs.declared.ops.ControlFlow.TheVariants as flow
 use Rattle.graph.specs.Meaning.{Meaning}
 use Rattle.walk.specs.declared.event.Control.{Control}
 use Rattle.walk.specs.declared.event.Control.TheVariants.{Continue, Prune, Break}
@@ -9,13 +12,15 @@ use Rattle.walk.specs.declared.mark.Mark.{Mark}
 use Rattle.walk.specs.declared.mark.Mark.TheVariants.{New, Open, Done}
 use Rattle.walk.specs.Marks.{mark_as, unseen, byte_of, mark_of}
 use Rattle.walk.specs.OpenBlocks.{OpenBlock, unwind}
+use Rattle.walk.specs.Replies.{flow_of}
 use Rattle.walk.specs.Walk.{Visitor, State, stop_of, report, stamp, discover, finish}
 use Rattle.walk.proofs.Bytes.{holds_set}
-use Rattle.walk.proofs.Cases.{event_of}
+use Rattle.walk.proofs.Cases.{event_of, new_seen}
 use Rattle.walk.proofs.Induct.{Stays}
-use Rattle.walk.proofs.Marks.{grow_mark_as, unseen_grow, unseen_mark_as}
+use Rattle.walk.proofs.Marks.{Seen, grow_mark_as, unseen_grow, unseen_mark_as}
 use Rattle.walk.proofs.Turns.{unwind_ended, turn_close, turn_edge, turn_enter, turn_open, after_discover}
-use Rattle.visit.specs.Standing.{At, Ended, Standing, Stands, Opens}
+use Rattle.visit.specs.Standing.{At, Ended, Standing, Stands, Opens, GoesOn}
+use Rattle.visit.specs.Turn.{Reads}
 
 -- the code called the visitor: what it replied, and how it stands after
 pub record Visits {S B : Type 0} (V : Visitor S B) (e : DfsEvent) (v v' : S) (c : Control B) : Type 0 where
@@ -25,9 +30,26 @@ pub record Visits {S B : Type 0} (V : Visitor S B) (e : DfsEvent) (v v' : S) (c 
 pub visits : {S B : Type 0} {V : Visitor S B} {e : DfsEvent} {v v' : S} {c : Control B} → c ≡ V.reply v e → v' ≡ V.next v e → Visits V e v v' c
 visits a b = record { answer = a; state = b }
 
-pub not_break : {B : Type 0} (c : Control B) → (c ≡ Continue) ⊎ (c ≡ Prune) → stop_of c ≡ None
-not_break c (inl e) = ap stop_of e
-not_break c (inr e) = ap stop_of e
+-- the same, where the code holds the event under another name
+pub heard_as : {S B : Type 0} {V : Visitor S B} {e e' : DfsEvent} {v v' : S} {c : Control B} → c ≡ V.reply v e' → v' ≡ V.next v e' → e' ≡ e
+    → Visits V e v v' c
+heard_as {V = V} {v = v} a b i = visits (a ∙ ap (V.reply v) i) (b ∙ ap (V.next v) i)
+
+-- the list of a block that is opened, which is empty where its reading is pruned
+abbrev pub list_read : {B : Type 0} → ControlFlow B Bool → List ℕ → List ℕ
+list_read (flow.Continue true) l = l
+list_read (flow.Continue false) l = []
+list_read (flow.Break x) l = []
+
+-- what holds by the reply holds of the reply told as control flow
+by_reply : {B : Type 0} (P : ControlFlow B Bool → Type 0) (c : Control B) → (c ≡ Continue → P (flow.Continue true))
+    → (c ≡ Prune → P (flow.Continue false)) → ((x : B) → c ≡ Break x → P (flow.Break x)) → {r : ControlFlow B Bool} → r ≡ flow_of c → P r
+by_reply {B} P c on shut over e = subst P (sym e) (by c refl)
+  where
+    by : (k : Control B) → c ≡ k → P (flow_of k)
+    by Continue i = on i
+    by Prune i = shut i
+    by (Break x) i = over x i
 
 module _ {S B : Type 0} (V : Visitor S B) where
   -- the event is reported
@@ -74,7 +96,7 @@ module _ {S B : Type 0} (V : Visitor S B) (G : Meaning) {end : State S B} where
     close_reply : (finish V u st.s).stop ≡ stop_of c
     close_reply = ap (λ k. stop_of (V.reply st.s.visitor (Finish u k))) st.at.time_is ∙ ap stop_of (replied V (Finish u t) st.at h)
 
-    pub closed_on : stop_of c ≡ None → Stands V G (set marks u 2) (t + 1) v' fs end
+    closed_on : stop_of c ≡ None → Stands V G (set marks u 2) (t + 1) v' fs end
     closed_on e =
         let r = st.room in
         let k = st.clock in
@@ -89,8 +111,12 @@ module _ {S B : Type 0} (V : Visitor S B) (G : Meaning) {end : State S B} where
           leads = close_leads;
         }
 
-    pub closed_over : (x : B) → c ≡ Break x → Ended x v' end
+    closed_over : (x : B) → c ≡ Break x → Ended x v' end
     closed_over x e = arrived fs x at_close (close_reply ∙ ap stop_of e) close_leads
+
+    -- the block is closed, by the reply
+    pub closed : {r : ControlFlow B Bool} → r ≡ flow_of c → GoesOn V G (set marks u 2) (t + 1) v' fs end (break_value r)
+    closed = by_reply (λ r. GoesOn V G (set marks u 2) (t + 1) v' fs end (break_value r)) c (λ i. closed_on (ap stop_of i)) (λ i. closed_on (ap stop_of i)) closed_over
 
   -- what is read of a block is its mark
   pub marked : {marks : List ℕ} {t : ℕ} {v : S} {fs : List OpenBlock} {next : State S B → State S B} {w : ℕ} {m : Mark} → w < G.size
@@ -110,7 +136,7 @@ module _ {S B : Type 0} (V : Visitor S B) (G : Meaning) {end : State S B} where
     read_leads : (m ≡ New → Stays V G c) → unwind V G (record { block = u; rest = ws } ∷ fs) (report V (event_of m u w) st.s) ≡ end
     read_leads y = sym (turn_edge V G m u w ws fs st.s st.running mark-is (stays y)) ∙ st.leads
 
-    pub read_on : (m ≡ New → Stays V G c) → stop_of c ≡ None → Stands V G marks t v' (record { block = u; rest = ws } ∷ fs) end
+    read_on : (m ≡ New → Stays V G c) → stop_of c ≡ None → Stands V G marks t v' (record { block = u; rest = ws } ∷ fs) end
     read_on y e =
         record {
           s = report V (event_of m u w) st.s;
@@ -122,12 +148,19 @@ module _ {S B : Type 0} (V : Visitor S B) (G : Meaning) {end : State S B} where
           leads = read_leads y;
         }
 
-    pub read_over : (x : B) → c ≡ Break x → Ended x v' end
+    read_over : (x : B) → c ≡ Break x → Ended x v' end
     read_over x e =
         arrived (record { block = u; rest = ws } ∷ fs) x (reported V (event_of m u w) st.at h) (ap stop_of (reply_is ∙ e))
         (read_leads (λ i. subst (Stays V G) (sym e) tt))
 
-  pub read_enter : {marks : List ℕ} {t : ℕ} {v v' : S} {u w : ℕ} {ws : List ℕ} {fs : List OpenBlock} {c : Control B} → w < G.size
+    -- a neighbour that is not new is passed over, by the reply
+    pub read_seen : Seen m → {r : ControlFlow B Bool} → r ≡ flow_of c
+        → GoesOn V G marks t v' (record { block = u; rest = ws } ∷ fs) end (break_value r)
+    read_seen seen =
+        let passed : stop_of c ≡ None → Stands V G marks t v' (record { block = u; rest = ws } ∷ fs) end = read_on (λ n. absurd (new_seen m n seen)) in
+        by_reply (λ r. GoesOn V G marks t v' (record { block = u; rest = ws } ∷ fs) end (break_value r)) c (λ i. passed (ap stop_of i)) (λ i. passed (ap stop_of i)) read_over
+
+  read_enter : {marks : List ℕ} {t : ℕ} {v v' : S} {u w : ℕ} {ws : List ℕ} {fs : List OpenBlock} {c : Control B} → w < G.size
       → New ≡ mark_of (get_or marks w 0) → Stands V G marks t v (record { block = u; rest = w ∷ ws } ∷ fs) end → Visits V (TreeEdge u w) v v' c
       → c ≡ Continue → Opens V G w marks t v' (record { block = u; rest = ws } ∷ fs) end
   read_enter {u = u} {w} {ws} {fs} l z st h e =
@@ -140,6 +173,15 @@ module _ {S B : Type 0} (V : Visitor S B) (G : Meaning) {end : State S B} where
         clock = st.clock;
         leads = sym (turn_enter V G u w ws fs st.s st.running (marked l st z) (replied V (TreeEdge u w) st.at h ∙ e)) ∙ st.leads;
       }
+
+  -- a new neighbour is opened or passed over, by the reply
+  pub read_new : {marks : List ℕ} {t : ℕ} {v v' : S} {u w : ℕ} {ws : List ℕ} {fs : List OpenBlock} {c : Control B} → w < G.size
+      → New ≡ mark_of (get_or marks w 0) → Stands V G marks t v (record { block = u; rest = w ∷ ws } ∷ fs) end → Visits V (TreeEdge u w) v v' c
+      → {r : ControlFlow B Bool} → r ≡ flow_of c → Reads V G w marks t v' (record { block = u; rest = ws } ∷ fs) end r
+  read_new {marks} {t} {v} {v'} {u} {w} {ws} {fs} {c} l z st h =
+      let mark-is = marked l st z in
+      by_reply (Reads V G w marks t v' (record { block = u; rest = ws } ∷ fs) end) c (read_enter l z st h)
+      (λ i. read_on New st mark-is h (λ n. subst (Stays V G) (sym i) tt) (ap stop_of i)) (read_over New st mark-is h)
 
   -- the new block u is opened over fs
   module _ {marks : List ℕ} {t : ℕ} {v v' : S} {u : ℕ} {fs : List OpenBlock} {c : Control B} (inside : u < G.size)
@@ -180,28 +222,25 @@ module _ {S B : Type 0} (V : Visitor S B) (G : Meaning) {end : State S B} where
           leads = q;
         }
 
-    pub opened_on : c ≡ Continue → Stands V G (set marks u 1) (t + 1) v' (record { block = u; rest = G.neighbors u } ∷ fs) end
+    opened_on : c ≡ Continue → Stands V G (set marks u 1) (t + 1) v' (record { block = u; rest = G.neighbors u } ∷ fs) end
     opened_on e = framed (G.neighbors u) (ap stop_of e) (ap (after_discover V G u fs st.s) (sym e) ∙ open_leads)
 
-    pub opened_shut : c ≡ Prune → Stands V G (set marks u 1) (t + 1) v' (record { block = u; rest = [] } ∷ fs) end
+    opened_shut : c ≡ Prune → Stands V G (set marks u 1) (t + 1) v' (record { block = u; rest = [] } ∷ fs) end
     opened_shut e =
         framed [] (ap stop_of e)
         (turn_close V G u fs (discover V u st.s) (ap stop_of (open_reply ∙ e)) ∙ ap (after_discover V G u fs st.s) (sym e) ∙ open_leads)
 
-    pub opened_over : (x : B) → c ≡ Break x → Ended x v' end
+    opened_over : (x : B) → c ≡ Break x → Ended x v' end
     opened_over x e =
         let z : discover V u st.s ≡ end = ap (after_discover V G u fs st.s) (sym e) ∙ open_leads in
         (sym (ap (λ y. y.stop) z) ∙ ap stop_of (open_reply ∙ e), sym (ap (λ y. y.visitor) z) ∙ at_open.visitor_is)
 
-module _ {S B : Type 0} (V : Visitor S B) (G : Meaning) where
-  pub pruned : {c : Control B} → c ≡ Prune → (New ≡ New → Stays V G c) × (stop_of c ≡ None)
-  pruned e = (λ i. subst (Stays V G) (sym e) tt, ap stop_of e)
-
-pub old_open : {A : Type 0} → Open ≡ New → A
-old_open e = let z : ◌≡◌ {A = ℕ} 0 1 = cc in absurd (omega arith)
-
-pub old_done : {A : Type 0} → Done ≡ New → A
-old_done e = let z : ◌≡◌ {A = ℕ} 0 1 = cc in absurd (omega arith)
+    -- the block is opened with the list that the reply leaves it
+    pub opened : {r : ControlFlow B Bool} → r ≡ flow_of c
+        → GoesOn V G (set marks u 1) (t + 1) v' (record { block = u; rest = list_read r (G.neighbors u) } ∷ fs) end (break_value r)
+    opened =
+        by_reply (λ r. GoesOn V G (set marks u 1) (t + 1) v' (record { block = u; rest = list_read r (G.neighbors u) } ∷ fs) end (break_value r)) c
+        opened_on opened_shut opened_over
 
 -- the code's own marks and frames, equal to those of the definition
 pub placed : {S B : Type 0} (V : Visitor S B) (G : Meaning) {end : State S B} {marks marks' : List ℕ} {t u : ℕ} {v : S} {l l' : List ℕ} {fs fs' : List OpenBlock}

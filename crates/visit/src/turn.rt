@@ -12,7 +12,7 @@ use crate::stack::Stack;
 use crate::visitor::Visitor;
 use graph::graph::Graph;
 use std::ops::ControlFlow;
-use walk::event::{Control, DfsEvent};
+use walk::event::DfsEvent;
 use walk::mark::Mark;
 
 // Reads the neighbour `v` of the open block `u`: whether it is new, and to be opened.
@@ -26,21 +26,13 @@ pub fn read<V: Visitor>(
     ensures new { IfEnter result (mark_of (slice_index guard.now.marks.now v) ≡ New) }
     ensures reads { ReadTurn V.Visitor.meaning guard.now.marks.now u v visitor.old visitor.new result }
 {
-    match guard.get(v) {
-        Mark::New => match visitor.visit(DfsEvent::TreeEdge(u, v)) {
-            Control::Continue => ControlFlow::Continue(true),
-            Control::Prune => ControlFlow::Continue(false),
-            Control::Break(value) => ControlFlow::Break(value),
-        },
-        Mark::Open => match visitor.visit(DfsEvent::BackEdge(u, v)) {
-            Control::Break(value) => ControlFlow::Break(value),
-            Control::Continue | Control::Prune => ControlFlow::Continue(false),
-        },
-        Mark::Done => match visitor.visit(DfsEvent::CrossForwardEdge(u, v)) {
-            Control::Break(value) => ControlFlow::Break(value),
-            Control::Continue | Control::Prune => ControlFlow::Continue(false),
-        },
-    }
+    let event = match guard.get(v) {
+        Mark::New => return visitor.visit(DfsEvent::TreeEdge(u, v)).flow(),
+        Mark::Open => DfsEvent::BackEdge(u, v),
+        Mark::Done => DfsEvent::CrossForwardEdge(u, v),
+    };
+    visitor.visit(event).flow()?;
+    ControlFlow::Continue(false)
 }
 
 // Closes the block `u`, whose list is at its end.
@@ -56,10 +48,8 @@ pub fn close<V: Visitor>(
     ensures closes { CloseTurn V.Visitor.meaning guard.old.marks.now guard.new.marks.now time u visitor.old visitor.new (break_value result) }
 {
     guard.set(u, Mark::Done);
-    match visitor.visit(DfsEvent::Finish(u, time)) {
-        Control::Break(value) => ControlFlow::Break(value),
-        Control::Continue | Control::Prune => ControlFlow::Continue(()),
-    }
+    visitor.visit(DfsEvent::Finish(u, time)).flow()?;
+    ControlFlow::Continue(())
 }
 
 // Opens the new block `u` over the blocks that are open. One whose reading is pruned gets the empty list, that of a number that is no block.
@@ -83,21 +73,14 @@ pub fn open<G: Graph, V: Visitor>(
         (stacked (G.Graph.rest graph.now) stack.new) (break_value result) }
 {
     guard.set(u, Mark::Open);
-    match visitor.visit(DfsEvent::Discover(u, time)) {
-        Control::Continue => {
-            stack.push(Frame {
-                block: u,
-                place: graph.head(u),
-            });
-            ControlFlow::Continue(())
-        }
-        Control::Prune => {
-            stack.push(Frame {
-                block: u,
-                place: graph.head(graph.node_count() as u32),
-            });
-            ControlFlow::Continue(())
-        }
-        Control::Break(value) => ControlFlow::Break(value),
-    }
+    let list = if visitor.visit(DfsEvent::Discover(u, time)).flow()? {
+        u
+    } else {
+        graph.node_count() as u32
+    };
+    stack.push(Frame {
+        block: u,
+        place: graph.head(list),
+    });
+    ControlFlow::Continue(())
 }

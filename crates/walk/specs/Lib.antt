@@ -1,4 +1,5 @@
 pub mod Marks
+pub mod Replies
 pub mod Walk
 pub mod OpenBlocks
 pub mod Ways

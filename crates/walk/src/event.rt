@@ -1,4 +1,8 @@
 // The events of a walk, and the replies to them.
+ghost use Rattle.std.specs.Prelude.{◌≡◌};
+ghost use Rattle.walk.specs.Replies.{flow_of};
+
+use std::ops::ControlFlow;
 
 // What a walk reports.
 #[derive(Clone, Copy, Debug, PartialEq, Eq)]
@@ -24,4 +28,17 @@ pub enum Control<B> {
     Prune,
     // the walk ends with a value
     Break(B),
+}
+
+impl<B> Control<B> {
+    // Whether the walk follows what it was told of, or the value that it ends with. O(1).
+    pub fn flow(self) -> ControlFlow<B, bool>
+        ensures { result ≡ flow_of self }
+    {
+        match self {
+            Control::Continue => ControlFlow::Continue(true),
+            Control::Prune => ControlFlow::Continue(false),
+            Control::Break(value) => ControlFlow::Break(value),
+        }
+    }
 }

@@ -1,19 +1,19 @@
 -- A block is closed as the definition closes it.
-use Rattle.std.proofs.Common.{◌+◌, sym, subst}
+use Rattle.std.proofs.Common.{◌+◌, sym, ◌∙◌, subst}
 use Rattle.visit.specs.Standing.{Stands}
-use Rattle.visit.proofs.Turns.{visits, not_break, closed_on, closed_over}
+use Rattle.visit.proofs.Turns.{visits, closed}
 use Rattle.visit.proofs.turn.close.Goals as goal
 
-pub returns-in-Break-clause-closes : goal.returns-in-Break-clause-closes
-returns-in-Break-clause-closes g c =
+pub returns-in_err-flow-clause-closes : goal.returns-in_err-flow-clause-closes
+returns-in_err-flow-clause-closes g c =
     let V = g.V.Visitor.meaning in
     let heard = visits c.visit.ensures.reply c.visit.ensures.state in
-    λ G fs end st. closed_over V G st heard c.in-Break.value c.in-Break.is
+    λ G fs end st. rw c.from_residual.ensures (closed V G st heard (sym c.in_err-flow.was ∙ c.flow.ensures))
 
-pub returns-in-Continue-clause-closes : goal.returns-in-Continue-clause-closes
-returns-in-Continue-clause-closes g c =
+pub returns-clause-closes : goal.returns-clause-closes
+returns-clause-closes g c =
     let V = g.V.Visitor.meaning in
     let heard = visits c.visit.ensures.reply c.visit.ensures.state in
     λ G fs end st.
     subst (λ m. Stands V G m (c.args.time + 1) c.visit.new.self fs end) (sym c.set.ensures.marks)
-    (closed_on V G st heard (not_break c.visit.result c.in-Continue.is))
+    (closed V G st heard (sym c.in_ok-flow.was ∙ c.flow.ensures))
