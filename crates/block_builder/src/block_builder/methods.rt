@@ -110,11 +110,7 @@ impl BlockBuilder {
     }
 
     // Marks one block unreachable or reachable. O(1).
-    pub fn set_unreachable(
-        &mut self,
-        block: BlockNodeId,
-        unreachable: bool,
-    ) -> Result<(), Refusal>
+    pub fn set_unreachable(&mut self, block: BlockNodeId, unreachable: bool) -> Result<(), Refusal>
         ensures { Performs (state.block_refusal block) (state.marked block unreachable) nothing (state_of self.old) (state_of self.new) result }
     {
         self.check_block(block)?;

@@ -8,9 +8,6 @@ use Rattle.contexts.proofs.ctx_stack.CtxStack.find.Goals.{else-allows-via-then-a
 use Rattle.contexts.proofs.ctx_stack.CtxStack.find.Goals as goal
 use borrow.Author.Tests.{tests}
 
-pub returns-then-ctx : goal.returns-then-ctx
-returns-then-ctx c = grind (arith, common_steps, found_last)
-
 pub loop-i-preserved : goal.loop-i-preserved
 loop-i-preserved c =
     let s = c.in-Some.ensures.steps in

@@ -2,7 +2,7 @@ use Rattle.std.proofs.Common.{rules, ◌∙◌}
 use Rattle.std.proofs.lemmas.Iterator.{YieldsList-from_slice}
 use Rattle.std.proofs.lemmas.Iterator.Consumers.{YieldsList-at, YieldsList-from_filter, count_from_yields_List}
 use Rattle.std.proofs.lemmas.List.Sums.{length-filter}
-use Rattle.contexts.specs.Tables.{draws, lacks}
+use Rattle.contexts.specs.Tables.{draws}
 use Rattle.contexts.proofs.ctx_stack.entries.counts.Goals as goal
 use borrow.Author.Tests.{tests}
 
@@ -13,11 +13,3 @@ returns-clause-drawn c =
     (YieldsList-at c.filter.ensures.source (YieldsList-from_slice c.args.waiting.now (cc)))
     c.filter.ensures.closure (λ x r q k. search (rules, tests)))
     ∙ length-filter (draws c.args.top.number c.args.top.ctx) c.args.waiting.now
-
-pub returns-clause-untargeted : goal.returns-clause-untargeted
-returns-clause-untargeted c =
-    count_from_yields_List c.filter-2.result c.count-untargeted.result c.count-untargeted.ensures.ran
-    (YieldsList-from_filter _ (lacks c.args.top.number c.args.top.ctx)
-    (YieldsList-at c.filter-2.ensures.source (YieldsList-from_slice c.args.waiting.now (cc)))
-    c.filter-2.ensures.closure (λ x r q k. search (rules, tests)))
-    ∙ length-filter (lacks c.args.top.number c.args.top.ctx) c.args.waiting.now
