@@ -10,6 +10,7 @@
 --   first_full n s             FULL with the first table of s that has no room for what is needed, none where all have
 use Rattle.std.specs.Prelude.{◌≡◌, ℕ, suc, ◌+◌, ◌-◌, ◌<◌, ◌≤◌, Bool, true, false, not, ◌||◌, List, [], ◌∷◌, ◌++◌, length, take, Some, None, Option, Result, MatchOption, ◌==◌, nat_lt}
 use Rattle.std.specs.List.{slice_get}
+use Rattle.std.specs.Option.{option_flatten}
 use Rattle.block_builder.specs.declared.block_builder.append.Ties.{Ties}
 use Rattle.block_builder.specs.declared.harness.ErrorHarness.{ErrorHarness}
 use Rattle.block_builder.specs.declared.room.Room.{Room}
@@ -180,12 +181,8 @@ abbrev pub mark_pop_refusal : BlockState → Option Refusal
 mark_pop_refusal s = row (lacks_mark (last_of s.finalizers)) NotTop None
 
 -- the finalizer on top, if that is a block
-abbrev pub joined : Option (Option ℕ) → Option ℕ
-joined None = None
-joined (Some top) = top
-
 abbrev pub finalizer_of : List (Option ℕ) → Option ℕ
-finalizer_of fs = joined (last_of fs)
+finalizer_of fs = option_flatten (last_of fs)
 
 -- 1 for a block, 0 for none
 abbrev pub count_of : Option ℕ → ℕ

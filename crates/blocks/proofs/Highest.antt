@@ -16,10 +16,6 @@ highest_take f zero xs = omega arith
 highest_take f (suc j) [] = omega arith
 highest_take f (suc j) (x ∷ xs) = let h = highest_take f j xs in omega arith
 
-pub above_known : (o : Option ℕ) (n : ℕ) → above o ≤ n → MatchOption o (⊥ → ⊥) (λ b. b < n)
-above_known None n l = λ z. z
-above_known (Some b) n l = omega arith
-
 -- what holds of the highest holds of the last
 pub last_under : {X : Type 0} (f : X → ℕ) (ys xs : List X) (x : X) (n : ℕ) → ys ≡ xs → 0 < length ys → x ≡ get_or ys (length ys - 1) x → highest f xs ≤ n
     → f x ≤ n

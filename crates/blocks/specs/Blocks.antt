@@ -9,8 +9,9 @@
 --   target_marked a b k g     g with the mark of b as an edge from a to b of the kind k leaves it
 --   edge_added a b k g        g with that mark and that edge
 --   instructions_in b is      the instructions of the block b, in their order
+--   no_block b g              refused where b is no block of g
 --   Grown n e i g h           h has n blocks, e edges and i instructions more than g
-use Rattle.std.specs.Prelude.{◌≡◌, ℕ, ◌+◌, Bool, true, false, cond, ◌&&◌, List, [], ◌∷◌, ◌++◌, map, length, filter, ◌==◌, slice_index_or, slice_set}
+use Rattle.std.specs.Prelude.{◌≡◌, ℕ, ◌+◌, Bool, true, false, cond, ◌&&◌, List, [], ◌∷◌, ◌++◌, map, length, filter, None, Option, ◌==◌, nat_le, slice_index_or, slice_set}
 use Rattle.std.specs.List.{list_any}
 use Rattle.blocks.specs.declared.basic_block.BlockInstruction.{BlockInstruction}
 use Rattle.kinds.specs.declared.block.Instruction.{Instruction}
@@ -19,6 +20,9 @@ use Rattle.kinds.specs.declared.block.InstructionKind.TheVariants as instruction
 use Rattle.kinds.specs.declared.edge.Edge.{Edge}
 use Rattle.kinds.specs.declared.edge.EdgeType.{EdgeType}
 use Rattle.kinds.specs.declared.edge.EdgeType.TheVariants.{Jump, Normal, Backedge, NewFunction, Finalize, Error, Unreachable, Join}
+use Rattle.kinds.specs.Replies.{row}
+use Rattle.kinds.specs.declared.refusal.Refusal.{Refusal}
+use Rattle.kinds.specs.declared.refusal.Refusal.TheVariants.{NoBlock}
 use Rattle.store.specs.Edges.{has_edge}
 use Rattle.store.specs.declared.direction.Direction.TheVariants.{Incoming}
 
@@ -26,6 +30,9 @@ pub record GraphState : Type 0 where
   pub marks : List Bool
   pub instructions : List BlockInstruction
   pub edges : List Edge
+
+abbrev pub no_block : ℕ → GraphState → Option Refusal
+no_block b g = row (nat_le (length g.marks) b) NoBlock None
 
 abbrev pub empty : GraphState
 empty = record { marks = []; instructions = []; edges = [] }

@@ -1,18 +1,11 @@
 -- What a built graph answers when it is read. Assumes nothing.
 --
---   no_block b g           refused where b is no block of g
 --   mark_of b g            whether the block b is marked unreachable
 --   instruction_of b k g   the instruction of the index k in the block b, if it has so many
-use Rattle.std.specs.Prelude.{ℕ, Bool, false, length, None, Option, nat_le, slice_index_or}
+use Rattle.std.specs.Prelude.{ℕ, Bool, false, Option, slice_index_or}
 use Rattle.std.specs.List.{slice_get}
-use Rattle.kinds.specs.Replies.{row}
 use Rattle.kinds.specs.declared.block.Instruction.{Instruction}
-use Rattle.kinds.specs.declared.refusal.Refusal.{Refusal}
-use Rattle.kinds.specs.declared.refusal.Refusal.TheVariants.{NoBlock}
 use Rattle.blocks.specs.Blocks.{GraphState, instructions_in}
-
-abbrev pub no_block : ℕ → GraphState → Option Refusal
-no_block b g = row (nat_le (length g.marks) b) NoBlock None
 
 abbrev pub mark_of : ℕ → GraphState → Bool
 mark_of b g = slice_index_or g.marks b false

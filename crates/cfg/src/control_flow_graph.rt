@@ -1,11 +1,12 @@
 // The built graph: its blocks, their instructions and marks, and its edges.
-ghost use Rattle.std.specs.Prelude.{◌≡◌, ◌<◌, length, IfOk};
+ghost use Rattle.std.specs.Prelude.{◌≡◌, length, IfOk};
 ghost use Rattle.std.specs.Result.{result_err};
 ghost use Rattle.kinds.specs.Replies.{told};
 ghost use Rattle.store.specs.Edges.{listed};
 ghost use Rattle.store.specs.View.{nodes_of, edges_of, left};
 ghost use Rattle.blocks.specs.View.{graph_of as built};
-ghost use Rattle.cfg.specs.Reads.{no_block, mark_of, instruction_of};
+ghost use Rattle.blocks.specs.Blocks.{no_block};
+ghost use Rattle.cfg.specs.Reads.{mark_of, instruction_of};
 ghost use Rattle.cfg.specs.View.{graph_of};
 
 use blocks::block_graph::BlockGraph;
@@ -53,22 +54,11 @@ impl ControlFlowGraph {
         self.blocks.edge_count()
     }
 
-    // NO_BLOCK where the block does not exist.
-    pub(crate) fn check_block(&self, block: BlockNodeId) -> Result<(), Refusal>
-        ensures value { result ≡ told (no_block block (graph_of self.now)) tt }
-        ensures known { IfOk result (λ _. block < length (graph_of self.now).marks) }
-    {
-        if block as usize >= self.blocks.block_count() {
-            return Err(Refusal::NoBlock);
-        }
-        Ok(())
-    }
-
     // Whether a block is marked unreachable. O(1).
     pub fn is_unreachable(&self, block: BlockNodeId) -> Result<bool, Refusal>
         ensures { result ≡ told (no_block block (graph_of self.now)) (mark_of block (graph_of self.now)) }
     {
-        self.check_block(block)?;
+        self.blocks.check_block(block)?;
         Ok(self.blocks.is_unreachable(block))
     }
 
@@ -80,7 +70,7 @@ impl ControlFlowGraph {
     ) -> Result<Option<Instruction>, Refusal>
         ensures { result ≡ told (no_block block (graph_of self.now)) (instruction_of block index (graph_of self.now)) }
     {
-        self.check_block(block)?;
+        self.blocks.check_block(block)?;
         Ok(self.blocks.instruction(block, index))
     }
 
@@ -97,7 +87,7 @@ impl ControlFlowGraph {
         ensures refusal { result_err result ≡ no_block block (graph_of self.now) }
         ensures lists { IfOk result (λ s. left s ≡ listed direction block (graph_of self.now).edges) }
     {
-        self.check_block(block)?;
+        self.blocks.check_block(block)?;
         Ok(self.edges_at(block, direction))
     }
 

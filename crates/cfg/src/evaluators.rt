@@ -28,9 +28,8 @@ impl<'a> EvalConstCondition for TrueNodes<'a> {
     ghost holds = { λ e i. of_node e.nodes.now i.node_id };
 
     fn eval(&self, instruction: Instruction) -> bool {
-        match instruction.node_id {
-            Some(node) => self.nodes.contains(&node),
-            None => false,
-        }
+        instruction
+            .node_id
+            .is_some_and(|node| self.nodes.contains(&node))
     }
 }

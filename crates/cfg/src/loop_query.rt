@@ -40,7 +40,7 @@ impl ControlFlowGraph {
     ) -> Result<Option<(BlockNodeId, BlockNodeId)>, Refusal>
         ensures { result ≡ told (loop_refusal node (graph_of self.now)) (loop_start (E.EvalConstCondition.holds evaluator.now) node (graph_of self.now)) }
     {
-        self.check_block(node)?;
+        self.blocks.check_block(node)?;
         let mut incoming = self.edges_at(node, Direction::Incoming);
         let Some(backedge) = next_backedge(&mut incoming) else {
             return Ok(None);
@@ -83,10 +83,8 @@ impl ControlFlowGraph {
         ensures { result ≡ only (instructions_in block (graph_of self.now).instructions) }
     {
         let first = self.blocks.instruction(block, 0)?;
-        match self.blocks.instruction(block, 1) {
-            Some(_) => None,
-            None => Some(first),
-        }
+        let second = self.blocks.instruction(block, 1);
+        second.is_none().then_some(first)
     }
 
     // The target of the newest Jump that leaves a block, or else of the newest edge that does.

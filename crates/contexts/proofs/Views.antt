@@ -22,10 +22,6 @@ pub target_fits : (k : EntryKind) (t : ℕ) (c : Ctx) (es : List Entry) → cont
 target_fits Break t c es = refl
 target_fits Continue t c es = refl
 
-pub target_label : (k : EntryKind) (t : ℕ) (c : Ctx) → (with_jump k t c).label ≡ c.label
-target_label Break t c = refl
-target_label Continue t c = refl
-
 pub jump_fits : (k : EntryKind) (c : Ctx) (es : List Entry) → target_of k (context_of c es) ≡ jump_of k c
 jump_fits Break c es = refl
 jump_fits Continue c es = refl
@@ -157,10 +153,6 @@ contexts_set f xs i new old ws l e h =
 
 pub contexts_count : (xs : List Ctx) (ws : List WaitingEntry) → length (contexts_in (reverse xs) ws) ≡ length xs
 contexts_count xs ws = contexts_length (reverse xs) ws ∙ length-reverse xs
-
-pub contexts_none : (xs : List Ctx) (ws : List WaitingEntry) → length xs ≡ 0 → contexts_in (reverse xs) ws ≡ []
-contexts_none [] ws e = refl
-contexts_none (x ∷ xs) ws e = absurd (omega arith)
 
 -- the topmost, as it is read from the stack
 pub is_top : (cs : List Ctx) (ws : List WaitingEntry) (n : ℕ) (c : Ctx) → n ≡ length cs → 0 < n → c ≡ get_or cs (n - 1) c → IsTop cs ws (n - 1) c

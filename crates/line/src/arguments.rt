@@ -38,7 +38,7 @@ impl<A: Argument> Argument for Option<A> {
     }
 }
 
-// Whether a word is `-`, which stands for none.
+// Whether a word is `-`, which stands for none. O(1).
 pub fn is_dash(word: &str) -> bool
     ensures { result ≡ dash word.now }
 {
@@ -52,14 +52,14 @@ pub fn none(mut words: Words) -> bool
     words.next().is_none()
 }
 
-// The value, where no word is left.
+// The value, where no word is left. O(1).
 pub fn alone<T: Drop>(value: T, words: Words) -> Option<T>
     ensures { result ≡ of_none value (left words.entry) }
 {
     none(words).then_some(value)
 }
 
-// The only word left.
+// The only word left. O(n) in its length.
 pub fn only<'a>(mut words: Words<'a>) -> Option<&'a str>
     ensures { option_copied result ≡ only_word (left words.entry) }
 {

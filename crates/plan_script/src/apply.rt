@@ -13,22 +13,10 @@ pub fn apply(plan: &mut BeltPlan, call: PlanCall) -> Result<Answer, Refusal>
     ensures plan { plan.new ≡ after (refusal_of call) plan.old (edited call plan.old) }
 {
     match call {
-        PlanCall::SetTransfer(from, to) => {
-            plan.set_transfer(from, to)?;
-            Ok(Answer::Done)
-        }
-        PlanCall::ClearTransfer(from, to) => {
-            plan.clear_transfer(from, to)?;
-            Ok(Answer::Done)
-        }
-        PlanCall::SetLock(segment) => {
-            plan.set_lock(segment)?;
-            Ok(Answer::Done)
-        }
-        PlanCall::ClearLock(segment) => {
-            plan.clear_lock(segment)?;
-            Ok(Answer::Done)
-        }
+        PlanCall::SetTransfer(from, to) => plan.set_transfer(from, to).map(|()| Answer::Done),
+        PlanCall::ClearTransfer(from, to) => plan.clear_transfer(from, to).map(|()| Answer::Done),
+        PlanCall::SetLock(segment) => plan.set_lock(segment).map(|()| Answer::Done),
+        PlanCall::ClearLock(segment) => plan.clear_lock(segment).map(|()| Answer::Done),
         PlanCall::Transfers(segment) => Ok(Answer::Listed(plan.transfers(segment)?)),
         PlanCall::Permitted(from, to) => Ok(Answer::Said(plan.is_permitted(from, to)?)),
         PlanCall::Segments => Ok(Answer::Counted(SEGMENTS)),

@@ -1,10 +1,10 @@
 // Whether a block lies on a cycle.
-ghost use Rattle.std.specs.Prelude.{◌≡◌, [], ◌∷◌, length, IfOk};
+ghost use Rattle.std.specs.Prelude.{◌≡◌, [], ◌∷◌, IfOk};
 ghost use Rattle.kinds.specs.Replies.{told};
 ghost use Rattle.walk.specs.Cycle.{cyclic};
 ghost use Rattle.walk.specs.CycleIsWayBack.{CycleIsWayBack};
 ghost use Rattle.search.specs.Frames.{FramesAfter};
-ghost use Rattle.search.specs.Refused.{refused};
+ghost use Rattle.search.specs.Refused.{walk_refusal};
 
 use crate::visitors::CycleVisitor;
 use graph::graph::Graph;
@@ -20,9 +20,9 @@ pub fn is_cyclic<G: Graph>(
     frames: &mut [Frame<G::Place>],
 ) -> Result<bool, Refusal>
     ensures marks { marks.new ≡ marks.old }
-    ensures frames { FramesAfter (refused (G.Graph.meaning graph.now).size (block ∷ []) marks.old (length frames.old))
+    ensures frames { FramesAfter (walk_refusal (G.Graph.meaning graph.now) (block ∷ []) marks.old frames.old)
         frames.old frames.new }
-    ensures answer { result ≡ told (refused (G.Graph.meaning graph.now).size (block ∷ []) marks.old (length frames.old))
+    ensures answer { result ≡ told (walk_refusal (G.Graph.meaning graph.now) (block ∷ []) marks.old frames.old)
         (cyclic (G.Graph.meaning graph.now) block) }
     ensures law { IfOk result (CycleIsWayBack (G.Graph.meaning graph.now) block) }
 {

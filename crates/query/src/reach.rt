@@ -1,12 +1,12 @@
 // Whether a block is reached from another.
-ghost use Rattle.std.specs.Prelude.{◌≡◌, ℕ, true, ◌↔◌, [], ◌∷◌, length, IfOk};
+ghost use Rattle.std.specs.Prelude.{◌≡◌, ℕ, true, ◌↔◌, [], ◌∷◌, IfOk};
 ghost use Rattle.kinds.specs.Replies.{told};
 ghost use Rattle.walk.specs.declared.event.Control.TheVariants.{Continue};
 ghost use Rattle.walk.specs.Reach.{Passing, reachable};
 ghost use Rattle.walk.specs.ReachIsDistance.{ReachIsDistance};
 ghost use Rattle.walk.specs.Ways.{Distance};
 ghost use Rattle.search.specs.Frames.{FramesAfter};
-ghost use Rattle.search.specs.Refused.{refused};
+ghost use Rattle.search.specs.Refused.{walk_refusal};
 
 use crate::filter::Filter;
 use crate::filters::PassAll;
@@ -27,9 +27,9 @@ pub fn is_reachable_filtered<G: Graph, F: Filter>(
     frames: &mut [Frame<G::Place>],
 ) -> Result<bool, Refusal>
     ensures marks { marks.new ≡ marks.old }
-    ensures frames { FramesAfter (refused (G.Graph.meaning graph.now).size (from ∷ to ∷ []) marks.old (length frames.old))
+    ensures frames { FramesAfter (walk_refusal (G.Graph.meaning graph.now) (from ∷ to ∷ []) marks.old frames.old)
         frames.old frames.new }
-    ensures answer { result ≡ told (refused (G.Graph.meaning graph.now).size (from ∷ to ∷ []) marks.old (length frames.old))
+    ensures answer { result ≡ told (walk_refusal (G.Graph.meaning graph.now) (from ∷ to ∷ []) marks.old frames.old)
         (reachable (G.Graph.meaning graph.now) (F.Filter.meaning filter.now) from to) }
     ensures law { IfOk result (ReachIsDistance (G.Graph.meaning graph.now) (F.Filter.meaning filter.now) from to) }
 {
@@ -55,9 +55,9 @@ pub fn is_reachable<G: Graph>(
     frames: &mut [Frame<G::Place>],
 ) -> Result<bool, Refusal>
     ensures marks { marks.new ≡ marks.old }
-    ensures frames { FramesAfter (refused (G.Graph.meaning graph.now).size (from ∷ to ∷ []) marks.old (length frames.old))
+    ensures frames { FramesAfter (walk_refusal (G.Graph.meaning graph.now) (from ∷ to ∷ []) marks.old frames.old)
         frames.old frames.new }
-    ensures answer { result ≡ told (refused (G.Graph.meaning graph.now).size (from ∷ to ∷ []) marks.old (length frames.old))
+    ensures answer { result ≡ told (walk_refusal (G.Graph.meaning graph.now) (from ∷ to ∷ []) marks.old frames.old)
         (reachable (G.Graph.meaning graph.now) (λ _. Continue) from to) }
     ensures law { IfOk result (λ answer. (answer ≡ true) ↔ ((k : ℕ) × Distance (Passing (G.Graph.meaning graph.now) (λ _. Continue)) from to k)) }
 {

@@ -3,7 +3,9 @@
 --   no_block n us            one of us is no block of n
 --   dirty marks              one of the marks is not 0
 --   refused n us marks room  why a walk of n blocks from us is refused, if it is; there is memory for `room` frames
+--   walk_refusal G us marks frames   why a walk of G from us, with these marks and frames lent to it, is refused, if it is
 use Rattle.std.specs.Prelude.{ℕ, Bool, not, List, length, take, None, Option, ◌==◌, nat_lt}
+use Rattle.graph.specs.Meaning.{Meaning}
 use Rattle.kinds.specs.declared.refusal.Refusal.{Refusal}
 use Rattle.kinds.specs.declared.refusal.Refusal.TheVariants.{NoBlock, Short, Dirty}
 use Rattle.kinds.specs.Replies.{row}
@@ -22,3 +24,6 @@ refused n us marks room =
     (row (nat_lt room n) Short
     (row (dirty (take n marks)) Dirty
     None)))
+
+abbrev pub walk_refusal : {P : Type 0} → Meaning → List ℕ → List ℕ → List P → Option Refusal
+walk_refusal G us marks frames = refused G.size us marks (length frames)

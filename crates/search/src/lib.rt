@@ -9,7 +9,7 @@ ghost use Rattle.walk.specs.NumbersOnce.{Numbered};
 ghost use Rattle.walk.specs.SpansNested.{Spans};
 ghost use Rattle.walk.specs.Walk.{walk};
 ghost use Rattle.search.specs.Frames.{FramesAfter};
-ghost use Rattle.search.specs.Refused.{no_block, refused};
+ghost use Rattle.search.specs.Refused.{no_block, walk_refusal};
 
 use crate::explore::Search;
 use crate::refuse::refuse_walk;
@@ -35,17 +35,17 @@ pub fn set_depth_first_search<G: Graph, V: Visitor>(
     frames: &mut [Frame<G::Place>],
 ) -> Result<Option<V::Stop>, Refusal>
     ensures marks { marks.new ≡ marks.old }
-    ensures answer { result ≡ told (refused (G.Graph.meaning graph.now).size starts.now marks.old (length frames.old))
+    ensures answer { result ≡ told (walk_refusal (G.Graph.meaning graph.now) starts.now marks.old frames.old)
         (walk V.Visitor.meaning (G.Graph.meaning graph.now) starts.now visitor.old).stop }
-    ensures visitor { visitor.new ≡ after (refused (G.Graph.meaning graph.now).size starts.now marks.old (length frames.old))
+    ensures visitor { visitor.new ≡ after (walk_refusal (G.Graph.meaning graph.now) starts.now marks.old frames.old)
         visitor.old (walk V.Visitor.meaning (G.Graph.meaning graph.now) starts.now visitor.old).visitor }
-    ensures frames { FramesAfter (refused (G.Graph.meaning graph.now).size starts.now marks.old (length frames.old))
+    ensures frames { FramesAfter (walk_refusal (G.Graph.meaning graph.now) starts.now marks.old frames.old)
         frames.old frames.new }
     ensures numbers { result ≡ Ok None → Numbered (walk V.Visitor.meaning (G.Graph.meaning graph.now) starts.now visitor.old).log }
-    ensures spans { refused (G.Graph.meaning graph.now).size starts.now marks.old (length frames.old) ≡ None
+    ensures spans { walk_refusal (G.Graph.meaning graph.now) starts.now marks.old frames.old ≡ None
         → Spans (walk V.Visitor.meaning (G.Graph.meaning graph.now) starts.now visitor.old).log
         (walk V.Visitor.meaning (G.Graph.meaning graph.now) starts.now visitor.old).stop }
-    ensures depth { refused (G.Graph.meaning graph.now).size starts.now marks.old (length frames.old) ≡ None
+    ensures depth { walk_refusal (G.Graph.meaning graph.now) starts.now marks.old frames.old ≡ None
         → DepthSuffices V.Visitor.meaning (G.Graph.meaning graph.now) starts.now visitor.old }
 {
     let count = graph.node_count();

@@ -4,7 +4,7 @@
 ghost use Rattle.std.specs.Prelude.{◌≡◌, length};
 ghost use Rattle.kinds.specs.Replies.{after, told};
 ghost use Rattle.search.specs.Frames.{FramesAfter};
-ghost use Rattle.search.specs.Refused.{refused};
+ghost use Rattle.search.specs.Refused.{walk_refusal};
 ghost use Rattle.trace.specs.Recording.{ordered};
 ghost use Rattle.trace.specs.Trace.{events, overwritten, traced};
 ghost use Rattle.trace.specs.TraceEnds.{trace_end};
@@ -31,11 +31,11 @@ pub fn trace<G: Graph>(
     frames: &mut [Frame<G::Place>],
 ) -> Result<TraceEnd, Refusal>
     ensures marks { marks.new ≡ marks.old }
-    ensures frames { FramesAfter (refused (G.Graph.meaning graph.now).size starts.now marks.old (length frames.old))
+    ensures frames { FramesAfter (walk_refusal (G.Graph.meaning graph.now) starts.now marks.old frames.old)
         frames.old frames.new }
-    ensures log { log.new ≡ after (refused (G.Graph.meaning graph.now).size starts.now marks.old (length frames.old))
+    ensures log { log.new ≡ after (walk_refusal (G.Graph.meaning graph.now) starts.now marks.old frames.old)
         log.old (overwritten (events (traced (G.Graph.meaning graph.now) (ordered options.entry) starts.now).log) log.old) }
-    ensures answer { result ≡ told (refused (G.Graph.meaning graph.now).size starts.now marks.old (length frames.old))
+    ensures answer { result ≡ told (walk_refusal (G.Graph.meaning graph.now) starts.now marks.old frames.old)
         (trace_end (traced (G.Graph.meaning graph.now) (ordered options.entry) starts.now) (length log.old)) }
 {
     let mut recorder = Recorder {

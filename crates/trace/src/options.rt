@@ -6,7 +6,7 @@ pub struct TraceOptions<'a, 'b> {
     pub prune_at: &'a [u32],
     // a tree edge into one of these is answered by Prune
     pub prune_into: &'b [u32],
-    // the event of this number, counting from 1, is answered by Break with the number
+    // the event of this number, counting from 1, is answered by Break with the number; no event has the number 0
     pub break_after: Option<u32>,
 }
 

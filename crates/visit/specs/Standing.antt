@@ -4,7 +4,6 @@
 --   AllBelow n fs            the open blocks fs are below n
 --   Ended x v end            the walk ended by a Break with x, and left the visitor as v
 --   Idle n marks t v s       no block is open, and the walk has come to s
---   Rests .. s r             that, or the walk ended there with the answer r
 --   Standing .. fs next end  the code holds a running state s with the blocks fs open, and `next` leads from s to `end`
 --   Stands .. fs end         the open blocks fs are still to be read and closed
 --   Opens u .. fs end        before that, u is to be opened over them
@@ -32,10 +31,6 @@ pub record Idle {S B : Type 0} (n : ℕ) (marks : List ℕ) (t : ℕ) (v : S) (s
   pub at : At n marks t v s
   pub running : s.stop ≡ None
   pub clock : t + 2 * unseen s.mark n ≤ 2 * n
-
-abbrev pub Rests : {S B : Type 0} → ℕ → List ℕ → ℕ → S → State S B → Option B → Type 0
-Rests n marks t v s None = Idle n marks t v s
-Rests n marks t v s (Some x) = Ended x v s
 
 module _ {S B : Type 0} (V : Visitor S B) (G : Meaning) where
   pub record Standing (marks : List ℕ) (t : ℕ) (v : S) (fs : List OpenBlock) (next : State S B → State S B) (end : State S B) : Type 0 where

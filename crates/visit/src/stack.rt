@@ -36,10 +36,7 @@ impl<'a, T: Copy> Stack<'a, T> {
         ensures popped { Popped result self.old.used self.new.used
             (held self.old.slots.now self.old.used) (held self.new.slots.now self.new.used) }
     {
-        if self.used == 0 {
-            return None;
-        }
-        self.used -= 1;
+        self.used = self.used.checked_sub(1)?;
         Some(self.slots[self.used])
     }
 }

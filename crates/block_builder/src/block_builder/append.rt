@@ -102,7 +102,7 @@ impl BlockBuilder {
         Ok(())
     }
 
-    // Refused where there is no harness or no room for a terminator. For the builder, which asks before it files an entry.
+    // Refused where there is no harness or no room for a terminator. For the builder, which asks before it files an entry. O(1).
     pub fn check_terminator(&self) -> Result<(), Refusal>
         ensures value { result ≡ told (state.append_full 2 (state_of self.now)) tt }
         ensures none { IfOk result (λ _. state.append_full 2 (state_of self.now) ≡ None) }

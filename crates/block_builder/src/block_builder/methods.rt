@@ -66,10 +66,7 @@ impl BlockBuilder {
         ensures value { result ≡ told (state.block_refusal block (state_of self.now)) tt }
         ensures known { IfOk result (λ _. block < block_count (state_of self.now)) }
     {
-        if block as usize >= self.graph.block_count() {
-            return Err(Refusal::NoBlock);
-        }
-        Ok(())
+        self.graph.check_block(block)
     }
 
     // FULL with the first table that has no room for what a call needs. O(1).

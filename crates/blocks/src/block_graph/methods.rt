@@ -2,13 +2,15 @@
 ghost use Rattle.std.specs.Prelude.{◌≡◌, ◌<◌, false, length, IfOk, slice_index_or};
 ghost use Rattle.std.specs.List.{slice_get};
 ghost use Rattle.store.specs.View.{nodes_of, edges_of};
-ghost use Rattle.blocks.specs.Blocks.{Grown, instructions_in, empty, edge_added, target_marked, block_added, instruction_added, mark_set};
+ghost use Rattle.blocks.specs.Blocks.{Grown, no_block, instructions_in, empty, edge_added, target_marked, block_added, instruction_added, mark_set};
 ghost use Rattle.blocks.specs.View.{graph_of};
+ghost use Rattle.kinds.specs.Replies.{told};
 
 use super::BlockGraph;
 use crate::basic_blocks::BasicBlocks;
 use kinds::block::{BlockNodeId, Instruction};
 use kinds::edge::EdgeType;
+use kinds::refusal::Refusal;
 use std::alloc::{AllocError, Global};
 use store::edge_store::EdgeStore;
 
@@ -52,6 +54,17 @@ impl BlockGraph {
         ensures edges { edges_of result.now ≡ (graph_of self.now).edges }
     {
         &self.store
+    }
+
+    // NO_BLOCK where the block does not exist. O(1).
+    pub fn check_block(&self, block: BlockNodeId) -> Result<(), Refusal>
+        ensures value { result ≡ told (no_block block (graph_of self.now)) tt }
+        ensures known { IfOk result (λ _. block < length (graph_of self.now).marks) }
+    {
+        if block as usize >= self.basic_blocks.len() {
+            return Err(Refusal::NoBlock);
+        }
+        Ok(())
     }
 
     // Whether a block is marked unreachable. O(1).

@@ -114,7 +114,7 @@ impl<'a> ControlFlowGraphBuilder<'a> {
         }
     }
 
-    // A break or a continue from the current block, by label.
+    // A break or a continue from the current block, filed in the context that the label finds; answers whether one was found. O(open contexts).
     pub fn file(&mut self, kind: EntryKind, label: Option<Label>) -> Result<bool, Refusal>
         ensures { Follows (call.File kind label) (found_for kind label) (book_of self.old) (book_of self.new) result }
     {
@@ -141,7 +141,7 @@ impl<'a> ControlFlowGraphBuilder<'a> {
         self.file(EntryKind::Continue, label)
     }
 
-    // A break or a continue from the current block, in the topmost context.
+    // A break or a continue from the current block, filed in the topmost context, its flags unread. O(1).
     pub fn file_on_top(&mut self, kind: EntryKind) -> Result<bool, Refusal>
         ensures { Follows (call.FileOnTop kind) yes (book_of self.old) (book_of self.new) result }
     {
@@ -167,7 +167,7 @@ impl<'a> ControlFlowGraphBuilder<'a> {
         self.file_on_top(EntryKind::Continue)
     }
 
-    // The instruction, an unreachable block after it, and the entry from the block before.
+    // Adds a break or a continue to the current block, goes on in an unreachable one, and files the block before by label. O(open contexts).
     pub fn append(
         &mut self,
         kind: EntryKind,
@@ -203,7 +203,7 @@ impl<'a> ControlFlowGraphBuilder<'a> {
         self.append(EntryKind::Continue, node, label)
     }
 
-    // Marks a target in the context that the label finds.
+    // Marks a target in the context that the label finds; answers whether one was found. O(open contexts).
     pub fn mark(
         &mut self,
         kind: EntryKind,
@@ -246,7 +246,7 @@ impl<'a> ControlFlowGraphBuilder<'a> {
         self.mark(EntryKind::Continue, label, jmp_pos)
     }
 
-    // Marks a target in the topmost context.
+    // Marks a target in the topmost context, its flags unread. O(1).
     pub fn mark_on_top(&mut self, kind: EntryKind, jmp_pos: BlockNodeId) -> Result<bool, Refusal>
         ensures { Follows (call.MarkOnTop kind jmp_pos) yes (book_of self.old) (book_of self.new) result }
     {
@@ -273,7 +273,7 @@ impl<'a> ControlFlowGraphBuilder<'a> {
         self.mark_on_top(EntryKind::Continue, jmp_pos)
     }
 
-    // Sets a flag of the topmost context.
+    // Lets the topmost context take breaks or continues by label. O(1).
     pub fn allow(&mut self, kind: EntryKind) -> Result<bool, Refusal>
         ensures { Follows (call.Allow kind) yes (book_of self.old) (book_of self.new) result }
     {

@@ -1,20 +1,11 @@
-use Rattle.std.proofs.Common.{◌≡◌, ◌+◌, ◌≤◌, length, drop, sym, ap, ◌∙◌, subst, arith}
-use Rattle.std.proofs.lemmas.List.{drop_more, drop_all}
+use Rattle.std.proofs.Common.{◌≡◌, ◌≤◌, length, sym, ap, ◌∙◌, subst, arith}
+use Rattle.std.proofs.lemmas.List.{drop_all}
 use Rattle.book.proofs.Kept.{law_run}
 use Rattle.book.specs.Book.{Book, run}
 use Rattle.book.specs.LawOfCounts.{Law}
 use Rattle.book.specs.Ledger.{ledger_run}
-use Rattle.book.specs.declared.call.Call.TheVariants.{AttachErrorHarness}
 use Rattle.builder.specs.View.{book_of}
-use Rattle.kinds.specs.declared.edge.ErrorEdgeKind.TheVariants.{Explicit}
 use Rattle.calls.proofs.replay.replay.Goals as goal
-
-pub loop-call-preserved : goal.loop-call-preserved
-loop-call-preserved c =
-    let cs = c.args.calls.now in
-    let i = c.loop-call.call-index in
-    ap (run (drop (i + 1) cs)) c.apply.ensures.book
-    ∙ ap (λ x. run x (book_of c.loop-call.builder)) (sym (drop_more cs i (AttachErrorHarness Explicit) c.loop-call-test.true)) ∙ c.loop-call.invariant
 
 pub returns : goal.returns
 returns c =

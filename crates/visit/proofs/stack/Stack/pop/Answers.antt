@@ -7,6 +7,6 @@ use Rattle.visit.proofs.stack.Stack.pop.Goals as goal
 pub returns-clause-popped : goal.returns-clause-popped
 returns-clause-popped g c =
     let xs = c.args.self.now.slots.now in
-    let k = c.args.self.now.used - 1 in
-    let e : c.args.self.now.used ≡ k + 1 = omega arith in
+    let k = c.in_ok-self.field-0 in
+    let e : c.args.self.now.used ≡ k + 1 = grind arith in
     (e, ap (held xs) e ∙ held_top xs k c.index-self-self.result (omega arith))
