@@ -10,7 +10,7 @@ use Rattle.walk.specs.DepthSuffices.{DepthSuffices}
 use Rattle.walk.specs.Marks.{mark_as, unseen}
 use Rattle.walk.specs.Walk.{Visitor, State, stop_of, report, discover, finish, close, edge, scan, opening, starts, begin, if_continue, unless_ended, start_marked, start}
 use Rattle.walk.proofs.Induct.{edge_marked, Stays, Laws, scan_ended, open_law}
-use Rattle.walk.proofs.Marks.{Grow, grow_refl, grow_trans, grow_mark_as, unseen_grow, unseen_mark_as, unseen_most}
+use Rattle.walk.proofs.Marks.{Grow, grow_mark_as, unseen_grow, unseen_mark_as, unseen_most}
 use Rattle.walk.proofs.Starts.{Blocks}
 
 module _ {S B : Type 0} (V : Visitor S B) (G : Meaning) where
@@ -65,22 +65,22 @@ module _ {S B : Type 0} (V : Visitor S B) (G : Meaning) where
         λ u s r m l b e. (grown u s m l, deep u s m l (discover V u s) (λ d h. unread u s m l (Break b) (discover V u s) e (λ k. refl) refl d));
     open_prune =
         λ u s r m l e. (
-          grow_trans s.mark (mark_as u Open s.mark) (mark_as u Done (mark_as u Open s.mark)) (grown u s m l) (grow_mark_as u Done (mark_as u Open s.mark) tt),
+          λ w t. grow_mark_as u Done (mark_as u Open s.mark) tt w (grown u s m l w t),
           deep u s m l (finish V u (discover V u s)) (λ d h. unread u s m l Prune (finish V u (discover V u s)) e (λ k. refl) refl d),
         );
     open_stop =
         λ u s r m l e s' q b h. (
-          grow_trans s.mark (mark_as u Open s.mark) s'.mark (grown u s m l) q.0,
+          λ w t. q.0 w (grown u s m l w t),
           deep u s m l s' (read u s m l s' s' e q (ap (λ o. unless_ended o s' (finish V u s')) h)),
         );
     open_go =
         λ u s r m l e s' q z. (
-          grow_trans s.mark s'.mark (mark_as u Done s'.mark) (grow_trans s.mark (mark_as u Open s.mark) s'.mark (grown u s m l) q.0) (grow_mark_as u Done s'.mark tt),
+          λ w t. grow_mark_as u Done s'.mark tt w (q.0 w (grown u s m l w t)),
           deep u s m l (finish V u s') (read u s m l s' (finish V u s') e q (ap (λ o. unless_ended o s' (finish V u s')) z)),
         );
     tree_stay =
         λ u v s r i m t. (
-          grow_refl s.mark,
+          λ w t. t,
           λ d h.
               edge_marked V G (opening V G d) u v New s r m
               ∙ stay (V.reply s.visitor (TreeEdge u v)) (report V (TreeEdge u v) s) (opening V G d v (report V (TreeEdge u v) s)) t,
@@ -92,12 +92,12 @@ module _ {S B : Type 0} (V : Visitor S B) (G : Meaning) where
               edge_marked V G (opening V G d) u v New s r m
               ∙ ap (λ c. if_continue c (report V (TreeEdge u v) s) (opening V G d v (report V (TreeEdge u v) s))) e ∙ p.1 d h,
         );
-    back = λ u v s r i m. (grow_refl s.mark, λ d h. edge_marked V G (opening V G d) u v Open s r m);
-    cross = λ u v s r i m. (grow_refl s.mark, λ d h. edge_marked V G (opening V G d) u v Done s r m);
-    nil = λ u s r. (grow_refl s.mark, λ d h. refl);
+    back = λ u v s r i m. (λ w t. t, λ d h. edge_marked V G (opening V G d) u v Open s r m);
+    cross = λ u v s r i m. (λ w t. t, λ d h. edge_marked V G (opening V G d) u v Done s r m);
+    nil = λ u s r. (λ w t. t, λ d h. refl);
     cons =
         λ u v vs s s₁ s₂ r e r₁ q. (
-          grow_trans s.mark s₁.mark s₂.mark e.0 q.0,
+          λ w t. q.0 w (e.0 w t),
           λ d h. ap (scan V (opening V G d) u vs) (e.1 d h) ∙ q.1 d (let k = unseen_grow s.mark s₁.mark e.0 G.size in omega arith),
         );
     halt = λ u v vs s s₁ r e b z. (e.0, λ d h. ap (scan V (opening V G d) u vs) (e.1 d h) ∙ scan_ended V G (opening V G d) u vs s₁ b z);

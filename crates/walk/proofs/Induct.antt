@@ -8,7 +8,7 @@ use Rattle.walk.specs.declared.mark.Mark.{Mark}
 use Rattle.walk.specs.declared.mark.Mark.TheVariants.{New, Open, Done}
 use Rattle.walk.specs.Marks.{mark_as, unseen}
 use Rattle.walk.specs.Walk.{Visitor, State, stop_of, report, discover, finish, close, edge, scan, opening, if_continue, unless_ended, read_marked}
-use Rattle.walk.proofs.Marks.{Grow, grow_refl, grow_trans, grow_mark_as, unseen_grow, unseen_mark_as}
+use Rattle.walk.proofs.Marks.{Grow, grow_mark_as, unseen_grow, unseen_mark_as}
 
 module _ {S B : Type 0} (V : Visitor S B) (G : Meaning) where
   abbrev pub Running : State S B → Type 0
@@ -77,21 +77,21 @@ module _ {S B : Type 0} (V : Visitor S B) (G : Meaning) where
         onward Continue e m =
             let p = H v (report V (TreeEdge u v) s) (ap stop_of e) m (W.below u v i) h in
             (L.tree_go u v s r i m e (go v (report V (TreeEdge u v) s)) p.0, p.1)
-        onward Prune e m = (L.tree_stay u v s r i m (subst Stays (sym e) tt), grow_refl s.mark)
-        onward (Break b) e m = (L.tree_stay u v s r i m (subst Stays (sym e) tt), grow_refl s.mark)
+        onward Prune e m = (L.tree_stay u v s r i m (subst Stays (sym e) tt), λ w t. t)
+        onward (Break b) e m = (L.tree_stay u v s r i m (subst Stays (sym e) tt), λ w t. t)
 
         at : (o : Option B) → o ≡ None → (m : Mark) → s.mark v ≡ m
             → Edged u v s (unless_ended o s (read_marked V go u v m s))
         at None q New e = onward (V.reply s.visitor (TreeEdge u v)) refl e
-        at None q Open e = (L.back u v s r i e, grow_refl s.mark)
-        at None q Done e = (L.cross u v s r i e, grow_refl s.mark)
-        at (Some b) q m e = let z : ◌≡◌ {A = ℕ} 0 1 = cc in absurd (omega arith)
+        at None q Open e = (L.back u v s r i e, λ w t. t)
+        at None q Done e = (L.cross u v s r i e, λ w t. t)
+        at (Some b) q m e = absurd cc
 
     pub scan_law : (f : ℕ) (go : ℕ → State S B → State S B) → Opener f go → (u : ℕ) (vs : List ℕ) (s : State S B) → Running s
         → ((v : ℕ) → Member v vs → Member v (G.neighbors u)) → unseen s.mark G.size ≤ f
         → Scanned u vs s (scan V go u vs s)
     unfolding scan
-    scan_law f go H u [] s r i h = (L.nil u s r, grow_refl s.mark)
+    scan_law f go H u [] s r i h = (L.nil u s r, λ w t. t)
     scan_law f go H u (v ∷ vs) s r i h =
         let e = edge_law f go H u v s r (i v (inl refl)) h in
         let k = unseen_grow s.mark (edge V go u v s).mark e.1 G.size in
@@ -103,7 +103,7 @@ module _ {S B : Type 0} (V : Visitor S B) (G : Meaning) where
         rest e None q ih =
             let p = ih q in (
               L.cons u v vs s (edge V go u v s) (scan V go u vs (edge V go u v s)) r e.0 q p.0,
-              grow_trans s.mark (edge V go u v s).mark (scan V go u vs (edge V go u v s)).mark e.1 p.1,
+              λ w t. p.1 w (e.1 w t),
             )
         rest e (Some b) q ih =
             subst (Scanned u (v ∷ vs) s) (sym (scan_ended go u vs (edge V go u v s) b q))
@@ -121,7 +121,7 @@ module _ {S B : Type 0} (V : Visitor S B) (G : Meaning) where
             → Grow s.mark s'.mark → (o : Option B) → s'.stop ≡ o
             → Opened u s (unless_ended o s' (finish V u s'))
         shut s' q e g None z =
-            (L.open_go u s r m l e s' q z, grow_trans s.mark s'.mark (mark_as u Done s'.mark) g (grow_mark_as u Done s'.mark tt))
+            (L.open_go u s r m l e s' q z, λ w t. grow_mark_as u Done s'.mark tt w (g w t))
         shut s' q e g (Some b) z = (L.open_stop u s r m l e s' q b z, g)
 
         by : (c : Control B) → V.reply s.visitor (Discover u s.time) ≡ c → Opener f (opening V G f)
@@ -130,13 +130,13 @@ module _ {S B : Type 0} (V : Visitor S B) (G : Meaning) where
             let w = unseen_mark_as u Open s.mark tt m G.size l in
             let p = scan_law f (opening V G f) H u (G.neighbors u) (discover V u s) (ap stop_of e) (λ v i. i) (omega arith) in
             let s' = scan V (opening V G f) u (G.neighbors u) (discover V u s) in
-            shut s' p.0 e (grow_trans s.mark (mark_as u Open s.mark) s'.mark grown p.1) s'.stop refl
+            shut s' p.0 e (λ w t. p.1 w (grown w t)) s'.stop refl
         by Prune e H =
             subst
             (λ o. Opened u s (unless_ended o (discover V u s) (finish V u (discover V u s))))
             (sym (ap stop_of e)) (
               L.open_prune u s r m l e,
-              grow_trans s.mark (mark_as u Open s.mark) (mark_as u Done (mark_as u Open s.mark)) grown (grow_mark_as u Done (mark_as u Open s.mark) tt),
+              λ w t. grow_mark_as u Done (mark_as u Open s.mark) tt w (grown w t),
             )
         by (Break b) e H =
             subst

@@ -1,6 +1,7 @@
 -- The law of reach.
-use Rattle.std.proofs.Common.{◌≡◌, ℕ, suc, ◌<◌, Bool, true, false, cond, eqb, ◌≢◌, ◌⊎◌, ◌↔◌, [], ◌∷◌, Some, None, Option, unwrap_or, sym, refl, ap, ◌∙◌, subst, inl, inr, arith, eq-eqb, ne_eqb, eqb-true}
-use mathlib.Core.Bool.{false≢true, Bool-discrete}
+use Rattle.std.proofs.Common.{◌≡◌, ℕ, suc, ◌<◌, Bool, true, false, cond, eqb, ◌≢◌, ◌⊎◌, ◌↔◌, [], ◌∷◌, Some, None, Option, unwrap_or, sym, refl, ap, ◌∙◌, subst, inl, inr, eq-eqb, ne_eqb, eqb-true}
+use mathlib.Core.Bool.{Bool-discrete}
+use Rattle.std.proofs.lemmas.Bool.{cases_eq, false≢true}
 use Rattle.graph.specs.Meaning.{Sound, Member, Meaning}
 use Rattle.walk.specs.declared.event.Control.{Control}
 use Rattle.walk.specs.declared.event.Control.TheVariants.{Continue, Prune, Break}
@@ -12,7 +13,7 @@ use Rattle.walk.specs.Walk.{State, walk, if_continue}
 use Rattle.walk.specs.Ways.{Way, here, on, Distance}
 use Rattle.walk.proofs.Cases.{event_of}
 use Rattle.walk.proofs.Least.{distance}
-use Rattle.walk.proofs.Marks.{same_or_not, mark_as_other}
+use Rattle.walk.proofs.Marks.{mark_as_other}
 use Rattle.walk.proofs.Seek.{Seeks, seek, Answer}
 use Rattle.walk.proofs.Ways.{way_map}
 
@@ -26,24 +27,24 @@ tree_reply c p t = if_continue c c (step_reply p t)
 
 tree_break : (c : Control Bool) (p t b : Bool) → ((x : Bool) → c ≡ Break x → ⊥) → tree_reply c p t ≡ Break b
     → (p ≡ true) × (c ≡ Continue) × (t ≡ true) × (b ≡ true)
-tree_break Continue false t b n h = let z : ◌≡◌ {A = ℕ} 0 1 = cc in absurd (omega arith)
-tree_break Continue true false b n h = let z : ◌≡◌ {A = ℕ} 0 1 = cc in absurd (omega arith)
+tree_break Continue false t b n h = absurd cc
+tree_break Continue true false b n h = absurd cc
 tree_break Continue true true b n h = (refl, refl, refl, cc)
-tree_break Prune p t b n h = let z : ◌≡◌ {A = ℕ} 0 1 = cc in absurd (omega arith)
+tree_break Prune p t b n h = absurd cc
 tree_break (Break x) p t b n h = absurd (n x refl)
 
 tree_go : (c : Control Bool) (p t : Bool) → tree_reply c p t ≡ Continue → (p ≡ true) × (c ≡ Continue)
-tree_go Continue false t h = let z : ◌≡◌ {A = ℕ} 0 1 = cc in absurd (omega arith)
+tree_go Continue false t h = absurd cc
 tree_go Continue true false h = (refl, refl)
 tree_go Continue true true h = (refl, refl)
-tree_go Prune p t h = let z : ◌≡◌ {A = ℕ} 0 1 = cc in absurd (omega arith)
-tree_go (Break x) p t h = let z : ◌≡◌ {A = ℕ} 0 1 = cc in absurd (omega arith)
+tree_go Prune p t h = absurd cc
+tree_go (Break x) p t h = absurd cc
 
 module _ (G : Meaning) (F : ℕ → Control Bool) (n : NeverStops F) where
   reach_found : (to : ℕ) (m : Mark) (u v : ℕ) (b : Bool) → reach_reply G F to (event_of m u v) ≡ Break b → Free G F u v × (v ≡ to) × (b ≡ true)
   reach_found to New u v b h = let t = tree_break (F u) (G.permitted u v) (eqb v to) b (n u) h in ((t.0, t.1), eqb-true v to t.2, t.3)
-  reach_found to Open u v b h = let z : ◌≡◌ {A = ℕ} 0 1 = cc in absurd (omega arith)
-  reach_found to Done u v b h = let z : ◌≡◌ {A = ℕ} 0 1 = cc in absurd (omega arith)
+  reach_found to Open u v b h = absurd cc
+  reach_found to Done u v b h = absurd cc
 
   reach_seeks : (a to : ℕ) → Seeks (reach_visitor G F to) G (Free G F) a to New (λ x. Unit {0}) (λ b. b ≡ true)
   reach_seeks a to = record {
@@ -64,8 +65,8 @@ module _ (G : Meaning) (F : ℕ → Control Bool) (n : NeverStops F) where
 
   continue? : (c : Control Bool) → Dec (c ≡ Continue)
   continue? Continue = yes refl
-  continue? Prune = no (λ h. let z : ◌≡◌ {A = ℕ} 0 1 = cc in omega arith)
-  continue? (Break b) = no (λ h. let z : ◌≡◌ {A = ℕ} 0 1 = cc in omega arith)
+  continue? Prune = no (λ h. cc)
+  continue? (Break b) = no (λ h. cc)
 
   passing? : (a b : ℕ) → Member b (G.neighbors a) → Dec (Passing G F a b)
   passing? a b i = by (Bool-discrete (G.permitted a b) true) (continue? (F a))
@@ -113,4 +114,4 @@ module _ (G : Meaning) (F : ℕ → Control Bool) (n : NeverStops F) where
         (other d end.stop refl)
 
 pub reach_law : (G : Meaning) → Sound G → (F : ℕ → Control Bool) (a b : ℕ) → a < G.size → ReachIsDistance G F a b (reachable G F a b)
-reach_law G W F a b l n = by G F n W a b l (same_or_not a b)
+reach_law G W F a b l n = by G F n W a b l (cases_eq a b)

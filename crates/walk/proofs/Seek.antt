@@ -1,5 +1,6 @@
 -- A search: a walk whose visitor keeps to some steps and breaks at a target. It breaks exactly when such steps lead to the target.
 use Rattle.std.proofs.Common.{◌≡◌, ℕ, zero, suc, ◌<◌, ◌≤◌, ◌≢◌, List, [], ◌∷◌, Some, None, Option, sym, refl, ap, ◌∙◌, subst, inl, inr, arith}
+use Rattle.std.proofs.lemmas.Bool.{cases_eq}
 use Rattle.graph.specs.Meaning.{Sound, Member, Meaning}
 use Rattle.walk.specs.declared.event.Control.{Control}
 use Rattle.walk.specs.declared.event.Control.TheVariants.{Continue, Prune, Break}
@@ -12,8 +13,8 @@ use Rattle.walk.specs.Walk.{Visitor, State, stop_of, report, discover, finish, c
 use Rattle.walk.specs.Ways.{Way, here, on}
 use Rattle.walk.proofs.Cases.{open_done, is_seen, run_stop, event_of, go_break}
 use Rattle.walk.proofs.Induct.{Running, Stays, Laws, scan_law, open_law}
-use Rattle.walk.proofs.Marks.{Seen, Grow, same_or_not, mark_as_same, mark_as_other, grow_mark_as, unseen_mark_as, unseen_most}
-use Rattle.walk.proofs.Steady.{Steady, steady_refl, steady_trans, steady_grow, steady_wrap}
+use Rattle.walk.proofs.Marks.{Seen, Grow, mark_as_same, mark_as_other, grow_mark_as, unseen_mark_as, unseen_most}
+use Rattle.walk.proofs.Steady.{Steady, steady_refl, steady_trans, steady_wrap}
 use Rattle.walk.proofs.Ways.{snoc}
 
 abbrev IsNew : Mark → Type 0
@@ -144,7 +145,7 @@ module _ {S B : Type 0} (V : Visitor S B) (G : Meaning) (ok : ℕ → ℕ → Ty
             → Known s₂ × Steady s₁.mark s₂.mark × ((x : ℕ) → Member x vs → Settled s₂.mark u x) → (x : ℕ) → Member x (v ∷ vs)
             → Settled s₂.mark u x
         both a y x (inl d) =
-            subst (Settled s₂.mark u) (sym d) (settle_grow s₁.mark s₂.mark (steady_grow s₁.mark s₂.mark y.1) u v a.2)
+            subst (Settled s₂.mark u) (sym d) (settle_grow s₁.mark s₂.mark (λ w t. rw ((y.1 w).0 t) t) u v a.2)
         both a y x (inr i) = y.2 x i
 
     law_halt : (u v : ℕ) (vs : List ℕ) (s s₁ : State S B) → Running V G s → E u v s s₁ → (b : B) → s₁.stop ≡ Some b → Q u (v ∷ vs) s s₁
@@ -156,11 +157,11 @@ module _ {S B : Type 0} (V : Visitor S B) (G : Meaning) (ok : ℕ → ℕ → Ty
       good = K.keep s.visitor (Discover u s.time) k.good;
       reached =
           λ x t.
-          elim (same_or_not x u) [ inl e ↦ subst Reached (sym e) w | inr n ↦ k.reached x (subst Seen (mark_as_other u Open s.mark x n) t) ];
+          elim (cases_eq x u) [ inl e ↦ subst Reached (sym e) w | inr n ↦ k.reached x (subst Seen (mark_as_other u Open s.mark x n) t) ];
       target = mark_as_other u Open s.mark to (λ e. d (sym e)) ∙ k.target;
       settled =
           λ x e v i.
-          elim (same_or_not x u) [
+          elim (cases_eq x u) [
             | inl h ↦ absurd (open_done (mark_as u Open s.mark x) (ap (mark_as u Open s.mark) h ∙ mark_as_same u Open s.mark) e)
             | inr n ↦ settle_mark u Open tt s.mark x v (k.settled x (sym (mark_as_other u Open s.mark x n) ∙ e) v i)
           ];
@@ -172,11 +173,11 @@ module _ {S B : Type 0} (V : Visitor S B) (G : Meaning) (ok : ℕ → ℕ → Ty
       good = K.keep s.visitor (Finish u s.time) k.good;
       reached =
           λ x t.
-          elim (same_or_not x u) [ inl e ↦ subst Reached (sym e) w | inr n ↦ k.reached x (subst Seen (mark_as_other u Done s.mark x n) t) ];
+          elim (cases_eq x u) [ inl e ↦ subst Reached (sym e) w | inr n ↦ k.reached x (subst Seen (mark_as_other u Done s.mark x n) t) ];
       target = mark_as_other u Done s.mark to (λ e. d (sym e)) ∙ k.target;
       settled =
           λ x e v i.
-          elim (same_or_not x u) [
+          elim (cases_eq x u) [
             | inl h ↦ settle_mark u Done tt s.mark x v (subst (λ y. Settled s.mark y v) (sym h) (a v (subst (λ y. Member v (G.neighbors y)) h i)))
             | inr n ↦ settle_mark u Done tt s.mark x v (k.settled x (sym (mark_as_other u Done s.mark x n) ∙ e) v i)
           ];
@@ -188,7 +189,7 @@ module _ {S B : Type 0} (V : Visitor S B) (G : Meaning) (ok : ℕ → ℕ → Ty
 
     law_open_prune : (u : ℕ) (s : State S B) → Running V G s → s.mark u ≡ New → u < G.size → V.reply s.visitor (Discover u s.time) ≡ Prune
         → P u s (finish V u (discover V u s))
-    law_open_prune u s r m l e d k w = let g = K.at_block s.visitor u s.time k.good in let z : ◌≡◌ {A = ℕ} 0 1 = cc in absurd (omega arith)
+    law_open_prune u s r m l e d k w = let g = K.at_block s.visitor u s.time k.good in absurd cc
 
     law_open_stop : (u : ℕ) (s : State S B) → Running V G s → s.mark u ≡ New → u < G.size → V.reply s.visitor (Discover u s.time) ≡ Continue
         → (s' : State S B) → Q u (G.neighbors u) (discover V u s) s' → (b : B) → s'.stop ≡ Some b → P u s s'
@@ -238,7 +239,7 @@ module _ {S B : Type 0} (V : Visitor S B) (G : Meaning) (ok : ℕ → ℕ → Ty
         by : (m : Mark) → s.mark x ≡ m → Seen m → Settled s.mark x v
         by New e t' = absurd t'
         by Open e t' =
-            elim (same_or_not x source) [
+            elim (cases_eq x source) [
               | inl d ↦ subst (λ y. Settled s.mark y v) (sym d) (q v (subst (λ y. Member v (G.neighbors y)) d i))
               | inr d ↦ absurd ((r x).1 (mark_as_other source Open (λ w. New) x d) e)
             ]
@@ -272,14 +273,14 @@ module _ {S B : Type 0} (V : Visitor S B) (G : Meaning) (ok : ℕ → ℕ → Ty
           good = K.keep v (Discover source 0) g;
           reached =
               λ x t.
-              elim (same_or_not x source) [
+              elim (cases_eq x source) [
                 | inl d ↦ subst Reached (sym d) (0, here)
                 | inr d ↦ absurd (subst Seen (mark_as_other source Open (λ w. New) x d) t)
               ];
           target = e;
           settled =
               λ x d y i.
-              elim (same_or_not x source) [
+              elim (cases_eq x source) [
                 | inl a ↦ absurd (open_done (mark_as source Open (λ w. New) x) (ap (mark_as source Open (λ w. New)) a ∙ mark_as_same source Open (λ w. New)) d)
                 | inr a ↦ absurd (subst IsNew (sym (mark_as_other source Open (λ w. New) x a) ∙ d) tt)
               ];

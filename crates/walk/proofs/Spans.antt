@@ -1,5 +1,6 @@
 -- The law of the spans.
 use Rattle.std.proofs.Common.{◌≡◌, ℕ, zero, suc, ◌<◌, ◌≤◌, ◌≢◌, ◌⊎◌, List, sym, refl, ap, ◌∙◌, subst, inl, inr, le_refl, arith}
+use Rattle.std.proofs.lemmas.Bool.{cases_eq}
 use Rattle.graph.specs.Meaning.{Sound, Meaning}
 use Rattle.walk.specs.declared.event.Control.{Control}
 use Rattle.walk.specs.declared.event.Control.TheVariants.{Continue, Prune, Break}
@@ -13,7 +14,7 @@ use Rattle.walk.specs.Walk.{Visitor, Report, State, stop_of, report, discover, f
 use Rattle.walk.specs.Ways.{Way, here, on}
 use Rattle.walk.proofs.Cases.{event_of, run_stop, new_open, new_seen, open_done, is_seen, new_done, not_left}
 use Rattle.walk.proofs.Induct.{Running, Stays, Laws}
-use Rattle.walk.proofs.Marks.{Seen, same_or_not, mark_as_same, mark_as_other, grow_mark_as}
+use Rattle.walk.proofs.Marks.{Seen, mark_as_same, mark_as_other, grow_mark_as}
 use Rattle.walk.proofs.Starts.{Blocks, starts_rule}
 use Rattle.walk.proofs.Steady.{Steady, steady_refl, steady_trans, steady_wrap}
 use Rattle.walk.proofs.Ways.{snoc, way_map}
@@ -84,7 +85,7 @@ module _ {S B : Type 0} (V : Visitor S B) (G : Meaning) where
   base_open u s m b = record {
     seen_disc =
         λ x t.
-        elim (same_or_not x u) [
+        elim (cases_eq x u) [
           | inl e ↦ (s.time, inl (e, refl))
           | inr n ↦ let h = b.seen_disc x (subst Seen (mark_as_other u Open s.mark x n) t) in (h.0, inr h.1)
         ];
@@ -93,7 +94,7 @@ module _ {S B : Type 0} (V : Visitor S B) (G : Meaning) where
     disc_same = same;
     done_fin =
         λ x e.
-        elim (same_or_not x u) [
+        elim (cases_eq x u) [
           | inl i ↦ absurd (open_done _ (ap (mark_as u Open s.mark) i ∙ mark_as_same u Open s.mark) e)
           | inr n ↦ let h = b.done_fin x (sym (mark_as_other u Open s.mark x n) ∙ e) in (h.0, inr h.1)
         ];
@@ -135,7 +136,7 @@ module _ {S B : Type 0} (V : Visitor S B) (G : Meaning) where
   base_close u s m b = record {
     seen_disc =
         λ x t.
-        elim (same_or_not x u) [
+        elim (cases_eq x u) [
           | inl e ↦ let h = b.seen_disc x (is_seen _ Open tt (ap s.mark e ∙ m)) in (h.0, inr h.1)
           | inr n ↦ let h = b.seen_disc x (subst Seen (mark_as_other u Done s.mark x n) t) in (h.0, inr h.1)
         ];
@@ -144,7 +145,7 @@ module _ {S B : Type 0} (V : Visitor S B) (G : Meaning) where
     disc_same = λ x y d h k. b.disc_same x y d (nd x d h) (nd y d k);
     done_fin =
         λ x e.
-        elim (same_or_not x u) [
+        elim (cases_eq x u) [
           | inl i ↦ (s.time, inl (i, refl))
           | inr n ↦ let h = b.done_fin x (sym (mark_as_other u Done s.mark x n) ∙ e) in (h.0, inr h.1)
         ];
@@ -248,7 +249,7 @@ module _ {S B : Type 0} (V : Visitor S B) (G : Meaning) where
   pub inv_root : (u : ℕ) (s : State S B) → s.mark u ≡ New → ((x : ℕ) → s.mark x ≡ Open → ⊥) → Inv s → Inv (discover V u s) × Top u (discover V u s)
   inv_root u s m c i = (
     record { base = base_open u s m i.base; edge = λ a b t. old (i.edge a b (not_left (λ z. z) t)); pair = two },
-    (mark_as_same u Open s.mark, λ x o. elim (same_or_not x u) [ inl e ↦ inl e | inr n ↦ absurd (c x (sym (mark_as_other u Open s.mark x n) ∙ o)) ]),
+    (mark_as_same u Open s.mark, λ x o. elim (cases_eq x u) [ inl e ↦ inl e | inr n ↦ absurd (c x (sym (mark_as_other u Open s.mark x n) ∙ o)) ]),
   )
     where
       l' : List (Report B)
@@ -290,7 +291,7 @@ module _ {S B : Type 0} (V : Visitor S B) (G : Meaning) where
       → Inv (discover V v (report V (TreeEdge u v) s)) × Top v (discover V v (report V (TreeEdge u v) s))
   inv_child u v s m c i o = (
     record { base = base_open v (report V (TreeEdge u v) s) m (base_edge New u v s i.base); edge = λ a b t. edges a b (not_left (λ z. z) t); pair = two },
-    (mark_as_same v Open s.mark, λ x p. elim (same_or_not x v) [ inl e ↦ inl e | inr n ↦ inr (leads x (o.1 x (sym (mark_as_other v Open s.mark x n) ∙ p))) ]),
+    (mark_as_same v Open s.mark, λ x p. elim (cases_eq x v) [ inl e ↦ inl e | inr n ↦ inr (leads x (o.1 x (sym (mark_as_other v Open s.mark x n) ∙ p))) ]),
   )
     where
       l' : List (Report B)
@@ -496,7 +497,7 @@ module _ {S B : Type 0} (V : Visitor S B) (G : Meaning) where
       into h (inr w) = w
 
       order : (d e : ℕ) → (d < e) ⊎ ((e < d) ⊎ (d ≡ e))
-      order d e = elim (same_or_not d e) [ inl z ↦ inr (inr z) | inr z ↦ cmp d e z ]
+      order d e = elim (cases_eq d e) [ inl z ↦ inr (inr z) | inr z ↦ cmp d e z ]
         where
           cmp : (d e : ℕ) → d ≢ e → (d < e) ⊎ ((e < d) ⊎ (d ≡ e))
           cmp zero zero z = inr (inr refl)
