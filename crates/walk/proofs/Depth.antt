@@ -9,7 +9,7 @@ use Rattle.walk.specs.declared.mark.Mark.TheVariants.{New, Open, Done}
 use Rattle.walk.specs.DepthSuffices.{DepthSuffices}
 use Rattle.walk.specs.Marks.{mark_as, unseen}
 use Rattle.walk.specs.Walk.{Visitor, State, stop_of, report, discover, finish, close, edge, scan, opening, starts, begin, if_continue, unless_ended, start_marked, start}
-use Rattle.walk.proofs.Induct.{edge_marked, Stays, Laws, scan_ended, open_law}
+use Rattle.walk.proofs.Induct.{edge_marked, edge_passed, Laws, scan_ended, open_law}
 use Rattle.walk.proofs.Marks.{Grow, grow_mark_as, unseen_grow, unseen_mark_as, unseen_most}
 use Rattle.walk.proofs.Starts.{Blocks}
 
@@ -53,11 +53,6 @@ module _ {S B : Type 0} (V : Visitor S B) (G : Meaning) where
         → unseen (discover V u s).mark G.size ≤ d → close V u (inner d u s reply) ≡ s'
     read s₁ s' e q f d h = ap (λ k. close V u (inner d u s k)) e ∙ ap (close V u) (q.1 d h) ∙ f
 
-  stay : (c : Control B) (s s' : State S B) → Stays V G c → if_continue c s s' ≡ s
-  stay Continue s s' h = absurd h
-  stay Prune s s' h = refl
-  stay (Break b) s s' h = refl
-
   laws : Laws V G P E Q
   unfolding scan
   laws = record {
@@ -78,13 +73,7 @@ module _ {S B : Type 0} (V : Visitor S B) (G : Meaning) where
           λ w t. grow_mark_as u Done s'.mark tt w (q.0 w (grown u s m l w t)),
           deep u s m l (finish V u s') (read u s m l s' (finish V u s') e q (ap (λ o. unless_ended o s' (finish V u s')) z)),
         );
-    tree_stay =
-        λ u v s r i m t. (
-          λ w t. t,
-          λ d h.
-              edge_marked V G (opening V G d) u v New s r m
-              ∙ stay (V.reply s.visitor (TreeEdge u v)) (report V (TreeEdge u v) s) (opening V G d v (report V (TreeEdge u v) s)) t,
-        );
+    tree_stay = λ u v s r i m t. (λ w t. t, λ d h. edge_passed V G (opening V G d) u v New s r m (λ _. t));
     tree_go =
         λ u v s r i m e s' p. (
           p.0,

@@ -8,6 +8,7 @@ use Rattle.walk.specs.declared.mark.Mark.{Mark}
 use Rattle.walk.specs.declared.mark.Mark.TheVariants.{New, Open, Done}
 use Rattle.walk.specs.Marks.{mark_as, unseen}
 use Rattle.walk.specs.Walk.{Visitor, State, stop_of, report, discover, finish, close, edge, scan, opening, if_continue, unless_ended, read_marked}
+use Rattle.walk.proofs.Cases.{event_of}
 use Rattle.walk.proofs.Marks.{Grow, grow_mark_as, unseen_grow, unseen_mark_as}
 
 module _ {S B : Type 0} (V : Visitor S B) (G : Meaning) where
@@ -49,7 +50,22 @@ module _ {S B : Type 0} (V : Visitor S B) (G : Meaning) where
   -- a neighbour is read by its mark
   pub edge_marked : (go : ℕ → State S B → State S B) (u v : ℕ) (m : Mark) (s : State S B) → Running s → s.mark v ≡ m
       → edge V go u v s ≡ read_marked V go u v m s
-  edge_marked go u v m s r e = ap (λ o. unless_ended o s (read_marked V go u v (s.mark v) s)) r ∙ ap (λ k. read_marked V go u v k s) e
+  edge_marked go u v m s r e = rw (r, e)
+
+  -- a neighbour that is not opened is reported
+  pub edge_passed : (go : ℕ → State S B → State S B) (u v : ℕ) (m : Mark) (s : State S B) → Running s → s.mark v ≡ m
+      → (m ≡ New → Stays (V.reply s.visitor (TreeEdge u v))) → edge V go u v s ≡ report V (event_of m u v) s
+  edge_passed go u v m s r e t = edge_marked go u v m s r e ∙ by m t
+    where
+      stay : {A : Type 0} (c : Control B) (a b : A) → Stays c → if_continue c a b ≡ a
+      stay Continue a b h = absurd h
+      stay Prune a b h = refl
+      stay (Break x) a b h = refl
+
+      by : (m : Mark) → (m ≡ New → Stays (V.reply s.visitor (TreeEdge u v))) → read_marked V go u v m s ≡ report V (event_of m u v) s
+      by New h = stay (V.reply s.visitor (TreeEdge u v)) _ _ (h refl)
+      by Open h = refl
+      by Done h = refl
 
   module _ (P : ℕ → State S B → State S B → Type 0) (E : ℕ → ℕ → State S B → State S B → Type 0) (Q : ℕ → List ℕ → State S B → State S B → Type 0)
       (L : Laws P E Q) (W : Sound G) where
@@ -70,22 +86,20 @@ module _ {S B : Type 0} (V : Visitor S B) (G : Meaning) where
 
     edge_law : (f : ℕ) (go : ℕ → State S B → State S B) → Opener f go → (u v : ℕ) (s : State S B) → Running s → Member v (G.neighbors u)
         → unseen s.mark G.size ≤ f → Edged u v s (edge V go u v s)
-    edge_law f go H u v s r i h = at s.stop r (s.mark v) refl
+    edge_law f go H u v s r i h = subst (λ o. Edged u v s (unless_ended o s (read_marked V go u v (s.mark v) s))) (sym r) (by (s.mark v) refl)
       where
         onward : (c : Control B) → V.reply s.visitor (TreeEdge u v) ≡ c → s.mark v ≡ New
             → Edged u v s (if_continue c (report V (TreeEdge u v) s) (go v (report V (TreeEdge u v) s)))
         onward Continue e m =
             let p = H v (report V (TreeEdge u v) s) (ap stop_of e) m (W.below u v i) h in
             (L.tree_go u v s r i m e (go v (report V (TreeEdge u v) s)) p.0, p.1)
-        onward Prune e m = (L.tree_stay u v s r i m (subst Stays (sym e) tt), λ w t. t)
-        onward (Break b) e m = (L.tree_stay u v s r i m (subst Stays (sym e) tt), λ w t. t)
+        onward Prune e m = (L.tree_stay u v s r i m (rw e tt), λ w t. t)
+        onward (Break b) e m = (L.tree_stay u v s r i m (rw e tt), λ w t. t)
 
-        at : (o : Option B) → o ≡ None → (m : Mark) → s.mark v ≡ m
-            → Edged u v s (unless_ended o s (read_marked V go u v m s))
-        at None q New e = onward (V.reply s.visitor (TreeEdge u v)) refl e
-        at None q Open e = (L.back u v s r i e, λ w t. t)
-        at None q Done e = (L.cross u v s r i e, λ w t. t)
-        at (Some b) q m e = absurd cc
+        by : (m : Mark) → s.mark v ≡ m → Edged u v s (read_marked V go u v m s)
+        by New e = onward (V.reply s.visitor (TreeEdge u v)) refl e
+        by Open e = (L.back u v s r i e, λ w t. t)
+        by Done e = (L.cross u v s r i e, λ w t. t)
 
     pub scan_law : (f : ℕ) (go : ℕ → State S B → State S B) → Opener f go → (u : ℕ) (vs : List ℕ) (s : State S B) → Running s
         → ((v : ℕ) → Member v vs → Member v (G.neighbors u)) → unseen s.mark G.size ≤ f
@@ -106,7 +120,7 @@ module _ {S B : Type 0} (V : Visitor S B) (G : Meaning) where
               λ w t. p.1 w (e.1 w t),
             )
         rest e (Some b) q ih =
-            subst (Scanned u (v ∷ vs) s) (sym (scan_ended go u vs (edge V go u v s) b q))
+            rw (scan_ended go u vs (edge V go u v s) b q)
             (L.halt u v vs s (edge V go u v s) r e.0 b q, e.1)
 
     pub open_law : (f : ℕ) → Opener f (opening V G f)

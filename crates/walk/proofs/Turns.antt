@@ -5,11 +5,11 @@ use Rattle.walk.specs.declared.event.Control.{Control}
 use Rattle.walk.specs.declared.event.Control.TheVariants.{Continue, Prune, Break}
 use Rattle.walk.specs.declared.event.DfsEvent.TheVariants.{Discover, TreeEdge}
 use Rattle.walk.specs.declared.mark.Mark.{Mark}
-use Rattle.walk.specs.declared.mark.Mark.TheVariants.{New, Open, Done}
+use Rattle.walk.specs.declared.mark.Mark.TheVariants.{New}
 use Rattle.walk.specs.OpenBlocks.{OpenBlock, unwind}
-use Rattle.walk.specs.Walk.{Visitor, State, stop_of, report, discover, finish, close, scan, opening, read_marked, if_continue, unless_ended}
+use Rattle.walk.specs.Walk.{Visitor, State, stop_of, report, discover, finish, close, scan, opening, if_continue, unless_ended}
 use Rattle.walk.proofs.Cases.{event_of}
-use Rattle.walk.proofs.Induct.{Running, Stays, scan_ended, edge_marked}
+use Rattle.walk.proofs.Induct.{Running, Stays, scan_ended, edge_marked, edge_passed}
 
 module _ {S B : Type 0} (V : Visitor S B) (G : Meaning) where
   -- once ended, nothing more is done
@@ -17,35 +17,23 @@ module _ {S B : Type 0} (V : Visitor S B) (G : Meaning) where
   unfolding unwind
   unwind_ended [] s b h = refl
   unwind_ended (f ∷ fs) s b h =
-      subst (λ x. unwind V G fs (close V f.block x) ≡ s)
-      (sym (scan_ended V G (opening V G (G.size - length (f ∷ fs))) f.block f.rest s b h))
+      rw (scan_ended V G (opening V G (G.size - length (f ∷ fs))) f.block f.rest s b h)
       (subst (λ o. unwind V G fs (unless_ended o s (finish V f.block s)) ≡ s) (sym h) (unwind_ended fs s b h))
 
   -- the list of the top is at its end: the block is closed
   pub turn_close : (u : ℕ) (fs : List OpenBlock) (s : State S B) → Running V G s
       → unwind V G (record { block = u; rest = [] } ∷ fs) s ≡ unwind V G fs (finish V u s)
   unfolding unwind scan
-  turn_close u fs s r = ap (λ o. unwind V G fs (unless_ended o s (finish V u s))) r
+  turn_close u fs s r = rw r
 
   -- a neighbour that is not opened
   pub turn_edge : (m : Mark) (u v : ℕ) (vs : List ℕ) (fs : List OpenBlock) (s : State S B) → Running V G s → s.mark v ≡ m
       → (m ≡ New → Stays V G (V.reply s.visitor (TreeEdge u v)))
       → unwind V G (record { block = u; rest = v ∷ vs } ∷ fs) s ≡ unwind V G (record { block = u; rest = vs } ∷ fs) (report V (event_of m u v) s)
   unfolding unwind scan
-  turn_edge m u v vs fs s r e t = ap (λ x. unwind V G fs (close V u (scan V go u vs x))) (edge_marked V G go u v m s r e ∙ by m t)
-    where
-      go : ℕ → State S B → State S B
-      go = opening V G (G.size - suc (length fs))
-
-      stay : (c : Control B) → Stays V G c → if_continue c (report V (TreeEdge u v) s) (go v (report V (TreeEdge u v) s)) ≡ report V (TreeEdge u v) s
-      stay Continue h = absurd h
-      stay Prune h = refl
-      stay (Break b) h = refl
-
-      by : (m : Mark) → (m ≡ New → Stays V G (V.reply s.visitor (TreeEdge u v))) → read_marked V go u v m s ≡ report V (event_of m u v) s
-      by New h = stay (V.reply s.visitor (TreeEdge u v)) (h refl)
-      by Open h = refl
-      by Done h = refl
+  turn_edge m u v vs fs s r e t =
+      ap (λ x. unwind V G fs (close V u (scan V (opening V G (G.size - suc (length fs))) u vs x)))
+      (edge_passed V G (opening V G (G.size - suc (length fs))) u v m s r e t)
 
   -- opening, by the reply to the discovery
   abbrev pub after_discover : ℕ → List OpenBlock → State S B → Control B → State S B
