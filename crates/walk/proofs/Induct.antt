@@ -40,6 +40,13 @@ module _ {S B : Type 0} (V : Visitor S B) (G : Meaning) where
     pub cons : (u v : ℕ) (vs : List ℕ) (s s₁ s₂ : State S B) → Running s → E u v s s₁ → Running s₁ → Q u vs s₁ s₂ → Q u (v ∷ vs) s s₂
     pub halt : (u v : ℕ) (vs : List ℕ) (s s₁ : State S B) → Running s → E u v s s₁ → (b : B) → s₁.stop ≡ Some b → Q u (v ∷ vs) s s₁
 
+  -- a block is closed while the walk runs, and not once it has ended
+  pub close_running : (u : ℕ) (s : State S B) → Running s → close V u s ≡ finish V u s
+  close_running u s r = ap (λ o. unless_ended o s (finish V u s)) r
+
+  pub close_ended : (u : ℕ) (s : State S B) (b : B) → s.stop ≡ Some b → close V u s ≡ s
+  close_ended u s b h = ap (λ o. unless_ended o s (finish V u s)) h
+
   -- nothing is done once the walk has ended
   pub scan_ended : (go : ℕ → State S B → State S B) (u : ℕ) (vs : List ℕ) (s : State S B) (b : B) → s.stop ≡ Some b → scan V go u vs s ≡ s
   unfolding scan
@@ -51,6 +58,12 @@ module _ {S B : Type 0} (V : Visitor S B) (G : Meaning) where
   pub edge_marked : (go : ℕ → State S B → State S B) (u v : ℕ) (m : Mark) (s : State S B) → Running s → s.mark v ≡ m
       → edge V go u v s ≡ read_marked V go u v m s
   edge_marked go u v m s r e = rw (r, e)
+
+  -- a neighbour that is opened
+  pub edge_entered : (go : ℕ → State S B → State S B) (u v : ℕ) (s : State S B) → Running s → s.mark v ≡ New
+      → V.reply s.visitor (TreeEdge u v) ≡ Continue → edge V go u v s ≡ go v (report V (TreeEdge u v) s)
+  edge_entered go u v s r m e =
+      edge_marked go u v New s r m ∙ ap (λ c. if_continue c (report V (TreeEdge u v) s) (go v (report V (TreeEdge u v) s))) e
 
   -- a neighbour that is not opened is reported
   pub edge_passed : (go : ℕ → State S B → State S B) (u v : ℕ) (m : Mark) (s : State S B) → Running s → s.mark v ≡ m
@@ -146,13 +159,9 @@ module _ {S B : Type 0} (V : Visitor S B) (G : Meaning) where
             let s' = scan V (opening V G f) u (G.neighbors u) (discover V u s) in
             shut s' p.0 e (λ w t. p.1 w (grown w t)) s'.stop refl
         by Prune e H =
-            subst
-            (λ o. Opened u s (unless_ended o (discover V u s) (finish V u (discover V u s))))
-            (sym (ap stop_of e)) (
+            subst (Opened u s) (sym (close_running u (discover V u s) (ap stop_of e))) (
               L.open_prune u s r m l e,
               λ w t. grow_mark_as u Done (mark_as u Open s.mark) tt w (grown w t),
             )
         by (Break b) e H =
-            subst
-            (λ o. Opened u s (unless_ended o (discover V u s) (finish V u (discover V u s))))
-            (sym (ap stop_of e)) (L.open_halt u s r m l b e, grown)
+            subst (Opened u s) (sym (close_ended u (discover V u s) b (ap stop_of e))) (L.open_halt u s r m l b e, grown)

@@ -11,9 +11,9 @@ module _ (P : ℕ → Type 0) (d : (k : ℕ) → Dec (P k)) where
   below (suc k) = elim (below k) [
     | inl h ↦ inl h
     | inr a ↦ elim (d k) [
-        | yes p ↦ inl (k, p, a)
-        | no n ↦ inr (λ j p. let l = a j p in let e : k ≡ j → ⊥ = λ e. n (rw e p) in omega (arith, e))
-      ]
+      | yes p ↦ inl (k, p, a)
+      | no n ↦ inr (λ j p. let l = a j p in let e : k ≡ j → ⊥ = λ e. n (rw e p) in omega (arith, e))
+    ]
   ]
 
   least : (k : ℕ) → P k → (m : ℕ) × P m × ((j : ℕ) → P j → m ≤ j)
@@ -25,9 +25,9 @@ any? P [] d = no (λ h. absurd h.1)
 any? P (v ∷ vs) d = elim (d v (inl refl)) [
   | yes p ↦ yes (v, inl refl, p)
   | no n ↦ elim (any? P vs (λ w j. d w (inr j))) [
-      | yes h ↦ yes (h.0, inr h.1, h.2)
-      | no r ↦ no (λ h. elim h.1 [ inl e ↦ n (rw (← e) h.2) | inr j ↦ r (h.0, j, h.2) ])
-    ]
+    | yes h ↦ yes (h.0, inr h.1, h.2)
+    | no r ↦ no (λ h. elim h.1 [ inl e ↦ n (rw (← e) h.2) | inr j ↦ r (h.0, j, h.2) ])
+  ]
 ]
 
 module _ (out : ℕ → List ℕ) (step : ℕ → ℕ → Type 0) (listed : (a b : ℕ) → step a b → Member b (out a))

@@ -125,7 +125,7 @@ module _ {S B : Type 0} (V : Visitor S B) (G : Meaning) (ok : ℕ → ℕ → Ty
           (q (known_open u s d k w) (mark_as_same u Open s.mark) w).0 r' in (
             λ _. (
               known_report (Finish u s'.time) (stamp V u Done s')
-              (known_stamp u Done s' tt y.0.good y.0.reached y.0.settled (mark_as_other u Done s'.mark to (λ z. d (sym z)) ∙ y.0.target) w (λ _. y.2)),
+                  (known_stamp u Done s' tt y.0.good y.0.reached y.0.settled (mark_as_other u Done s'.mark to (λ z. d (sym z)) ∙ y.0.target) w (λ _. y.2)),
               steady_wrap u s.mark s'.mark m y.1,
               mark_as_same u Done s'.mark,
             ),
@@ -144,8 +144,7 @@ module _ {S B : Type 0} (V : Visitor S B) (G : Meaning) (ok : ℕ → ℕ → Ty
       cons =
           λ u v vs s s₁ s₂ r e r₁ q k o w. let a =
           (e k o w).0 r₁ in
-          let x = q a.0 ((a.1 u).0 (rw o tt) ∙ o) w in
-          (
+          let x = q a.0 ((a.1 u).0 (rw o tt) ∙ o) w in (
             λ r₂. let y =
                 x.0 r₂ in (
                   y.0,
@@ -170,9 +169,9 @@ module _ {S B : Type 0} (V : Visitor S B) (G : Meaning) (ok : ℕ → ℕ → Ty
         → Settled s.mark x v
     all_settled s k r q x t v i = elim (seen_cases (s.mark x) t) [
       | inl e ↦ elim (cases_eq x source) [
-          | inl d ↦ rw d (q v (rw (← d) i))
-          | inr d ↦ absurd ((r x).1 (mark_as_other source Open (λ w. New) x d) e)
-        ]
+        | inl d ↦ rw d (q v (rw (← d) i))
+        | inr d ↦ absurd ((r x).1 (mark_as_other source Open (λ w. New) x d) e)
+      ]
       | inr e ↦ k.settled x e v i
     ]
 

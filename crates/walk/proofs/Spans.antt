@@ -217,7 +217,7 @@ module _ {S B : Type 0} (V : Visitor S B) (G : Meaning) where
   inv_root : (u : ℕ) (s : State S B) → s.mark u ≡ New → ((x : ℕ) → s.mark x ≡ Open → ⊥) → Inv s → Inv (discover V u s) × Top u (discover V u s)
   inv_root u s m c i = (
     inv_open u s m i.base (λ a b t. edge_more _ s.log a b (i.edge a b t) (λ f p. absurd p)) i.pair
-    (λ x t. elim (seen_cases (s.mark x) t) [ inl p ↦ absurd (c x p) | inr p ↦ inl (ended s i.base x p) ]),
+        (λ x t. elim (seen_cases (s.mark x) t) [ inl p ↦ absurd (c x p) | inr p ↦ inl (ended s i.base x p) ]),
     (mark_as_same u Open s.mark, λ x o. elim (cases_eq x u) [ inl e ↦ inl e | inr n ↦ absurd (c x (rw (mark_as_other u Open s.mark x n) at o)) ]),
   )
 
@@ -226,17 +226,19 @@ module _ {S B : Type 0} (V : Visitor S B) (G : Meaning) where
       → Inv (discover V v (report V (TreeEdge u v) s)) × Top v (discover V v (report V (TreeEdge u v) s))
   inv_child u v s m c i o = (
     inv_open v s₁ m (base_edge (TreeEdge u v) s (λ x d. (λ z. z, λ z. z)) i.base) edges (pairs_more (said (TreeEdge u v) s) s.log (λ x d z. z) i.pair)
-    (λ x t.
+        (λ x t.
         elim (seen_cases (s.mark x) t) [
           | inl p ↦ inr (leads x (o.1 x p))
           | inr p ↦ let h = ended s i.base x p in inl (h.0, inr h.1, h.2)
         ]),
-    (mark_as_same v Open s.mark,
-    λ x p.
-        elim (cases_eq x v) [
-          | inl e ↦ inl e
-          | inr n ↦ let w = leads x (o.1 x (rw (mark_as_other v Open s.mark x n) at p)) in inr (w.0, way_map (λ a b t. inr t) w.1)
-        ]),
+    (
+      mark_as_same v Open s.mark,
+      λ x p.
+          elim (cases_eq x v) [
+            | inl e ↦ inl e
+            | inr n ↦ let w = leads x (o.1 x (rw (mark_as_other v Open s.mark x n) at p)) in inr (w.0, way_map (λ a b t. inr t) w.1)
+          ],
+    ),
   )
     where
       s₁ : State S B
@@ -368,9 +370,9 @@ module _ {S B : Type 0} (V : Visitor S B) (G : Meaning) where
   between W us x b =
       starts_rule V G P E Q span_laws W Between
       (λ u s s' r m l i p.
-          let n = inv_root u s m (i.1 r) i.0 in
-          let k = p n.0 n.1 in
-          (k.0, λ z y o. i.1 r y (was_open (s.mark y) (s'.mark y) ((k.1 z).0 y) o))) us (begin V x) b
+      let n = inv_root u s m (i.1 r) i.0 in
+      let k = p n.0 n.1 in
+      (k.0, λ z y o. i.1 r y (was_open (s.mark y) (s'.mark y) ((k.1 z).0 y) o))) us (begin V x) b
       (inv_begin x, λ _ y o. cc)
 
   -- a way of tree edges leads inside
