@@ -8,7 +8,7 @@ use Rattle.block_builder.specs.BlockState.{BlockState}
 use Rattle.book.specs.Book as book
 use Rattle.book.specs.Book.{Book, new_book, with_blocks, with_contexts, context_for, filed, targeted, allowed, resolved_by, refusal, done, step, run}
 use Rattle.book.specs.LawOfCounts.{entries_at, EdgeStands, EdgesStand, Law}
-use Rattle.book.specs.Ledger.{Fate, Unfiled, Waiting, Given, Ledger, is_unfiled, is_waiting, is_drawn, is_untargeted, drawn_as, count_fate, waits_in, waiting_in, given_now, resolved_in, top_resolved, edge_taken, recorded, ledger_step, ledger_run, new_ledger}
+use Rattle.book.specs.Ledger.{Fate, first_fate, Unfiled, Waiting, Given, Ledger, is_unfiled, is_waiting, is_drawn, is_untargeted, drawn_as, count_fate, waits_in, waiting_in, given_now, resolved_in, top_resolved, edge_taken, recorded, ledger_step, ledger_run, new_ledger}
 use Rattle.book.specs.declared.call.Call.{Call}
 use Rattle.book.specs.declared.call.Call.TheVariants as call
 use Rattle.contexts.specs.Contexts.{Context, Entry, with_target, with_flag, opened, top_number, top_continue, upper_label, resolve_counts, waiting_count}
@@ -105,32 +105,35 @@ edges_push : (es : List Edge) (gs : List Given) (g : Given) → EdgesStand es gs
 edges_push es [] g h s = (s, tt)
 edges_push es (x ∷ gs) g h s = (h.0, edges_push es gs g h.1 s)
 
--- what a push of the fate f does to the counts of a book, whose own counts and entries follow it
-law_pushed : (k k' : Book) (l : Ledger) (g : Given) → EdgeStands k.blocks.graph.edges g.block g.fate → ((x : ℕ) → drawn_as x g.fate ≡ false)
-    → k'.blocks ≡ k.blocks → k'.given ≡ k.given + 1 → k'.unfiled ≡ k.unfiled + cond (is_unfiled g.fate) 1 0
-    → waiting_count k'.contexts ≡ waiting_count k.contexts + cond (is_waiting g.fate) 1 0 → k'.drawn ≡ k.drawn + cond (is_drawn g.fate) 1 0
-    → k'.untargeted ≡ k.untargeted + cond (is_untargeted g.fate) 1 0
-    → ((i : ℕ) → entries_at i k'.contexts ≡ entries_at i k.contexts ++ cond (waits_in i g.fate) (entry_of g.kind g.block ∷ []) []) → Law k l
-    → Law k' (record { given = l.given ++ g ∷ []; taken = l.taken })
-law_pushed k k' l g s n b a u w d t e h = record {
-  given = omega (arith, length_push l.given g);
-  unfiled = omega (arith, count_push is_unfiled l.given g);
-  waiting = omega (arith, count_push is_waiting l.given g);
-  drawn = omega (arith, count_push is_drawn l.given g);
-  untargeted = omega (arith, count_push is_untargeted l.given g);
-  total = omega (arith, one_fate g.fate);
-  entries = λ i. e i ∙ ap (λ z. z ++ cond (waits_in i g.fate) (entry_of g.kind g.block ∷ []) []) (h.entries i) ∙ sym (waiting_in_push i l.given g);
-  edges_stand = rw b (edges_push k.blocks.graph.edges l.given g h.edges_stand s);
-  jumps_once = λ x. rw (b, count_push (drawn_as x) l.given g, n x) (omega (arith, h.jumps_once x));
-}
+filed_waiting : (j : EntryKind) (b : ℕ) (o : Option ℕ) (k : Book) → Within o (length k.contexts)
+    → waiting_count (filed j b o k).contexts ≡ waiting_count k.contexts + cond (is_waiting (first_fate o)) 1 0
+filed_waiting j b None k w = omega arith
+filed_waiting j b (Some m) k w = count_filed j b m k.contexts w
+
+filed_entries : (j : EntryKind) (b : ℕ) (o : Option ℕ) (k : Book) → Within o (length k.contexts) → (i : ℕ)
+    → entries_at i (filed j b o k).contexts ≡ entries_at i k.contexts ++ cond (waits_in i (first_fate o)) (entry_of j b ∷ []) []
+filed_entries j b None k w i = sym (append-nil (entries_at i k.contexts))
+filed_entries j b (Some m) k w i = entries_filed j b m k.contexts w i
 
 law_filed : (j : EntryKind) (b : ℕ) (o : Option ℕ) (k : Book) (l : Ledger) → Within o (length k.contexts) → Law k l → Law (filed j b o k) (given_now j b o l)
-law_filed j b None k l w h =
-    law_pushed k (filed j b None k) l (record { kind = j; block = b; fate = Unfiled }) tt (λ x. refl) refl refl refl (omega arith) (omega arith) (omega arith)
-    (λ i. sym (append-nil (entries_at i k.contexts))) h
-law_filed j b (Some m) k l w h =
-    law_pushed k (filed j b (Some m) k) l (record { kind = j; block = b; fate = Waiting m }) tt (λ x. refl) refl refl (omega arith) (count_filed j b m k.contexts w)
-    (omega arith) (omega arith) (entries_filed j b m k.contexts w) h
+law_filed j b o k l w h =
+    let g : Given = record { kind = j; block = b; fate = first_fate o } in
+    record {
+      given = grind (arith, length_push l.given g);
+      unfiled = grind (arith, count_push is_unfiled l.given g);
+      waiting = grind (arith, count_push is_waiting l.given g, filed_waiting j b o k w);
+      drawn = grind (arith, count_push is_drawn l.given g);
+      untargeted = grind (arith, count_push is_untargeted l.given g);
+      total = grind (arith, filed_waiting j b o k w);
+      entries = λ i. filed_entries j b o k w i ∙ ap (λ z. z ++ cond (waits_in i g.fate) (entry_of j b ∷ []) []) (h.entries i)
+          ∙ sym (waiting_in_push i l.given g);
+      edges_stand = stand o;
+      jumps_once = λ x. grind (arith, count_push (drawn_as x) l.given g, h.jumps_once x);
+    }
+  where
+    stand : (o : Option ℕ) → EdgesStand (filed j b o k).blocks.graph.edges (given_now j b o l).given
+    stand None = edges_push k.blocks.graph.edges l.given _ h.edges_stand tt
+    stand (Some m) = edges_push k.blocks.graph.edges l.given _ h.edges_stand tt
 
 law_targeted : (j : EntryKind) (t : ℕ) (o : Option ℕ) (k : Book) (l : Ledger) → Law k l → Law (targeted j t o k) l
 law_targeted j t None k l h = h
