@@ -1,5 +1,5 @@
 -- Edges that are added: which numbers are Jump edges, and that an edge stays where it is.
-use Rattle.std.proofs.Common.{◌≡◌, ℕ, zero, suc, ◌+◌, ◌≤◌, true, false, cond, eqb, List, [], ◌∷◌, ◌++◌, length, Some, None, Option, refl, ◌∙◌, arith}
+use Rattle.std.proofs.Common.{◌≡◌, ℕ, zero, suc, ◌+◌, ◌≤◌, false, cond, eqb, List, [], ◌∷◌, ◌++◌, length, Some, None, Option, refl, ◌∙◌, arith, rules}
 use lib.Dec.{eqb-zero-suc, eqb-suc-zero, eqb-suc-suc}
 use Rattle.std.specs.List.{slice_get}
 use Rattle.block_builder.specs.BlockState as state
@@ -12,25 +12,20 @@ use Rattle.kinds.specs.declared.block.InstructionKind.{InstructionKind}
 use Rattle.kinds.specs.declared.edge.Edge.{Edge}
 use Rattle.kinds.specs.declared.edge.EdgeType.TheVariants as edge
 
-pub jump_at_other : (es : List Edge) (e : Edge) (x : ℕ) → is_jump e.kind ≡ false → jump_at (es ++ e ∷ []) x ≡ jump_at es x
-jump_at_other [] e zero h = rw h
-jump_at_other [] e (suc x) h = refl
-jump_at_other (a ∷ es) e zero h = refl
-jump_at_other (a ∷ es) e (suc x) h = jump_at_other es e x h
-
-pub jump_at_jump : (es : List Edge) (e : Edge) (x : ℕ) → is_jump e.kind ≡ true → jump_at (es ++ e ∷ []) x ≡ jump_at es x + cond (eqb x (length es)) 1 0
-jump_at_jump [] e zero h = rw h
-jump_at_jump [] e (suc x) h = rw (eqb-suc-zero x)
-jump_at_jump (a ∷ es) e zero h = rw (eqb-zero-suc (length es)) (omega arith)
-jump_at_jump (a ∷ es) e (suc x) h = rw (eqb-suc-suc x (length es)) (jump_at_jump es e x h)
+pub jump_at_push : (es : List Edge) (e : Edge) (x : ℕ)
+    → jump_at (es ++ e ∷ []) x ≡ jump_at es x + cond (is_jump e.kind) (cond (eqb x (length es)) 1 0) 0
+jump_at_push [] e zero = grind arith
+jump_at_push [] e (suc x) = grind (arith, eqb-suc-zero x)
+jump_at_push (a ∷ es) e zero = grind (arith, eqb-zero-suc (length es))
+jump_at_push (a ∷ es) e (suc x) = rw (eqb-suc-suc x (length es)) (jump_at_push es e x)
 
 pub jump_at_one : (es : List Edge) (x : ℕ) → jump_at es x ≤ 1
 jump_at_one [] x = omega arith
-jump_at_one (e ∷ es) zero = elim (is_jump e.kind) as (λ t. cond t 1 0 ≤ 1) [ true ↦ omega arith | false ↦ omega arith ]
+jump_at_one (e ∷ es) zero = search rules
 jump_at_one (e ∷ es) (suc x) = jump_at_one es x
 
 pub edge_at_more : (es ys : List Edge) (x : ℕ) (e : Edge) → slice_get es x ≡ Some e → slice_get (es ++ ys) x ≡ Some e
-edge_at_more [] ys x e h = absurd (let z : ◌≡◌ {A = ℕ} 0 1 = cc in omega arith)
+edge_at_more [] ys x e h = absurd cc
 edge_at_more (a ∷ es) ys zero e h = h
 edge_at_more (a ∷ es) ys (suc x) e h = edge_at_more es ys x e h
 
@@ -64,7 +59,7 @@ pub no_jumps_then : (es fs gs : List Edge) → NoJumps es fs → NoJumps fs gs �
 no_jumps_then es fs gs p q = record { stay = λ x e h. q.stay x e (p.stay x e h); jumps = λ x. q.jumps x ∙ p.jumps x }
 
 pub no_jumps_push : (es : List Edge) (e : Edge) → is_jump e.kind ≡ false → NoJumps es (es ++ e ∷ [])
-no_jumps_push es e h = record { stay = λ x f g. edge_at_more es (e ∷ []) x f g; jumps = λ x. jump_at_other es e x h }
+no_jumps_push es e h = record { stay = λ x f g. edge_at_more es (e ∷ []) x f g; jumps = λ x. grind (arith, jump_at_push es e x, h) }
 
 no_jumps_finalize : (n : ℕ) (f : Option ℕ) (g : GraphState) → NoJumps g.edges (state.finalize_added n f g).edges
 no_jumps_finalize n None g = no_jumps_same g.edges

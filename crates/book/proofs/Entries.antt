@@ -1,5 +1,5 @@
 -- Which entries an open context has after each change of the contexts, and which wait in the ledger.
-use Rattle.std.proofs.Common.{◌≡◌, ℕ, suc, ◌+◌, ◌<◌, Bool, true, false, cond, ◌&&◌, eqb, List, [], ◌∷◌, ◌++◌, length, Some, None, Option, sym, refl, ap, ◌∙◌, inl, inr, arith}
+use Rattle.std.proofs.Common.{◌≡◌, ℕ, suc, ◌+◌, ◌<◌, Bool, true, false, cond, ◌&&◌, eqb, List, [], ◌∷◌, ◌++◌, length, Some, None, Option, sym, refl, ◌∙◌, inl, inr, arith, rules}
 use Rattle.std.proofs.lemmas.List.{append-nil, length_push}
 use Rattle.std.proofs.lemmas.List.Sums.{sum_by_push}
 use Rattle.std.proofs.lemmas.Bool.{cases_eq, eq-eqb, ne_eqb}
@@ -13,9 +13,7 @@ use Rattle.kinds.specs.declared.context.Label.{Label}
 
 pub length_changed : (f : Context → Context) (i : ℕ) (cs : List Context) → length (changed_at f i cs) ≡ length cs
 length_changed f i [] = refl
-length_changed f i (c ∷ cs) =
-    elim (eqb i (length cs)) as (λ t. length (cond t (f c ∷ cs) (c ∷ changed_at f i cs)) ≡ suc (length cs))
-    [ true ↦ refl | false ↦ ap suc (length_changed f i cs) ]
+length_changed f i (c ∷ cs) = grind (arith, length_changed f i cs)
 
 -- what the search finds is open
 abbrev pub Within : Option ℕ → ℕ → Type 0
@@ -45,23 +43,15 @@ top_within (c ∷ cs) = omega arith
 pub entries_kept : (f : Context → Context) (m : ℕ) (cs : List Context) → ((c : Context) → (f c).entries ≡ c.entries) → (i : ℕ)
     → entries_at i (changed_at f m cs) ≡ entries_at i cs
 entries_kept f m [] h i = refl
-entries_kept f m (c ∷ cs) h i =
-    elim (eqb m (length cs)) as (λ t. entries_at i (cond t (f c ∷ cs) (c ∷ changed_at f m cs)) ≡ cond (eqb i (length cs)) c.entries (entries_at i cs)) [
-      | true ↦ ap (λ x. cond (eqb i (length cs)) x (entries_at i cs)) (h c)
-      | false ↦ ap (λ x. cond (eqb i x) c.entries (entries_at i (changed_at f m cs))) (length_changed f m cs)
-          ∙ ap (λ x. cond (eqb i (length cs)) c.entries x) (entries_kept f m cs h i)
-    ]
+entries_kept f m (c ∷ cs) h i = grind (arith, length_changed f m cs, entries_kept f m cs h i, h c)
 
 pub count_kept : (f : Context → Context) (m : ℕ) (cs : List Context) → ((c : Context) → (f c).entries ≡ c.entries)
     → waiting_count (changed_at f m cs) ≡ waiting_count cs
 count_kept f m [] h = refl
-count_kept f m (c ∷ cs) h =
-    elim (eqb m (length cs)) as (λ t. waiting_count (cond t (f c ∷ cs) (c ∷ changed_at f m cs)) ≡ length c.entries + waiting_count cs)
-    [ true ↦ ap (λ x. length x + waiting_count cs) (h c) | false ↦ ap (λ x. length c.entries + x) (count_kept f m cs h) ]
+count_kept f m (c ∷ cs) h = grind (arith, count_kept f m cs h, h c)
 
 pub target_entries : (j : EntryKind) (t : ℕ) (c : Context) → (with_target j t c).entries ≡ c.entries
-target_entries entry.Break t c = refl
-target_entries entry.Continue t c = refl
+target_entries j t c = search rules
 
 pub given_entries : (t o : Option ℕ) (cs : List Context) (i : ℕ) → entries_at i (continue_given t o cs) ≡ entries_at i cs
 given_entries None o cs i = refl
@@ -72,9 +62,6 @@ pub given_count : (t o : Option ℕ) (cs : List Context) → waiting_count (cont
 given_count None o cs = refl
 given_count (Some t) None cs = refl
 given_count (Some t) (Some m) cs = count_kept (with_target entry.Continue t) m cs (target_entries entry.Continue t)
-
-less : (a n : ℕ) → a < suc n → (a ≡ n → ⊥) → a < n
-less a n h q = omega (arith, q)
 
 -- one entry more
 abbrev pub entry_of : EntryKind → ℕ → Entry
@@ -93,29 +80,22 @@ entries_filed j b m (c ∷ cs) l i =
       | inr p ↦ rw (ne_eqb m (length cs) p, length_changed (with_entry j b) m cs) (
           elim (cases_eq i (length cs)) [
             | inl q ↦ rw (eq-eqb i (length cs) q, ne_eqb i m (λ z. p (sym z ∙ q))) (sym (append-nil c.entries))
-            | inr q ↦ rw (ne_eqb i (length cs) q) (entries_filed j b m cs (less m (length cs) l p) i)
+            | inr q ↦ rw (ne_eqb i (length cs) q) (entries_filed j b m cs (omega (arith, p)) i)
           ])
     ]
 
 pub count_filed : (j : EntryKind) (b m : ℕ) (cs : List Context) → m < length cs → waiting_count (changed_at (with_entry j b) m cs) ≡ waiting_count cs + 1
 count_filed j b m [] l = absurd (omega arith)
-count_filed j b m (c ∷ cs) l =
-    elim (cases_eq m (length cs)) [
-      | inl p ↦ rw (eq-eqb m (length cs) p) (let h = length_push c.entries (entry_of j b) in omega arith)
-      | inr p ↦ rw (ne_eqb m (length cs) p) (let h = count_filed j b m cs (less m (length cs) l p) in omega arith)
-    ]
+count_filed j b m (c ∷ cs) l = elim (cases_eq m (length cs)) [
+  | inl p ↦ grind (arith, eq-eqb m (length cs) p, length_push c.entries (entry_of j b))
+  | inr p ↦ grind (arith, ne_eqb m (length cs) p, count_filed j b m cs (omega (arith, p)))
+]
 
 -- the ledger's side of it
 pub waiting_in_push : (i : ℕ) (gs : List Given) (g : Given)
     → waiting_in i (gs ++ g ∷ []) ≡ waiting_in i gs ++ cond (waits_in i g.fate) (entry_of g.kind g.block ∷ []) []
-waiting_in_push i [] g =
-    elim (waits_in i g.fate) as
-    (λ t. cond t (entry_of g.kind g.block ∷ []) [] ≡ cond t (entry_of g.kind g.block ∷ []) []) [ true ↦ refl | false ↦ refl ]
-waiting_in_push i (x ∷ gs) g =
-    elim (waits_in i x.fate) as
-    (λ t. cond t (entry_of x.kind x.block ∷ waiting_in i (gs ++ g ∷ [])) (waiting_in i (gs ++ g ∷ []))
-    ≡ cond t (entry_of x.kind x.block ∷ waiting_in i gs) (waiting_in i gs) ++ cond (waits_in i g.fate) (entry_of g.kind g.block ∷ []) [])
-    [ true ↦ ap (λ y. entry_of x.kind x.block ∷ y) (waiting_in_push i gs g) | false ↦ waiting_in_push i gs g ]
+waiting_in_push i [] g = grind arith
+waiting_in_push i (x ∷ gs) g = grind (arith, waiting_in_push i gs g)
 
 pub count_push : (p : Fate → Bool) (gs : List Given) (g : Given) → count_fate p (gs ++ g ∷ []) ≡ count_fate p gs + cond (p g.fate) 1 0
 count_push p gs g = sum_by_push (λ (x : Given). cond (p x.fate) 1 0) gs g

@@ -1,5 +1,5 @@
 -- Each call keeps the law of the counts, so each list of calls does.
-use Rattle.std.proofs.Common.{◌≡◌, ℕ, ◌+◌, ◌≤◌, Bool, true, false, cond, eqb, List, [], ◌∷◌, ◌++◌, length, Some, None, Option, sym, refl, ap, ◌∙◌, subst, inl, inr, arith}
+use Rattle.std.proofs.Common.{◌≡◌, ℕ, ◌+◌, ◌≤◌, true, false, cond, eqb, List, [], ◌∷◌, ◌++◌, length, Some, None, Option, sym, refl, ap, ◌∙◌, subst, inl, inr, arith, rules}
 use Rattle.std.proofs.lemmas.List.{append-nil, length_push}
 use Rattle.std.proofs.lemmas.List.Sums.{sum_by_push}
 use Rattle.std.proofs.lemmas.Bool.{cases_eq, eq-eqb, ne_eqb}
@@ -8,7 +8,7 @@ use Rattle.block_builder.specs.BlockState.{BlockState}
 use Rattle.book.specs.Book as book
 use Rattle.book.specs.Book.{Book, new_book, with_blocks, with_contexts, context_for, filed, targeted, allowed, resolved_by, refusal, done, step, run}
 use Rattle.book.specs.LawOfCounts.{entries_at, EdgeStands, EdgesStand, Law}
-use Rattle.book.specs.Ledger.{Fate, Unfiled, Waiting, Drawn, Untargeted, Given, Ledger, is_unfiled, is_waiting, is_drawn, is_untargeted, drawn_as, count_fate, waiting_in, given_now, resolved_in, top_resolved, is_jump, edge_taken, recorded, ledger_step, ledger_run, new_ledger}
+use Rattle.book.specs.Ledger.{Fate, first_fate, Unfiled, Waiting, Given, Ledger, is_unfiled, is_waiting, is_drawn, is_untargeted, drawn_as, count_fate, waits_in, waiting_in, given_now, resolved_in, top_resolved, edge_taken, recorded, ledger_step, ledger_run, new_ledger}
 use Rattle.book.specs.declared.call.Call.{Call}
 use Rattle.book.specs.declared.call.Call.TheVariants as call
 use Rattle.contexts.specs.Contexts.{Context, Entry, with_target, with_flag, opened, top_number, top_continue, upper_label, resolve_counts, waiting_count}
@@ -19,27 +19,26 @@ use Rattle.kinds.specs.declared.context.EntryKind.{EntryKind}
 use Rattle.kinds.specs.declared.edge.Edge.{Edge}
 use Rattle.kinds.specs.declared.edge.EdgeType.{EdgeType}
 use Rattle.kinds.specs.declared.refusal.Refusal.{Refusal}
-use Rattle.book.proofs.Edges.{jump_at_jump, jump_at_one, edge_at_more, edges_stay, NoJumps, no_jumps_same, no_jumps_push, no_jumps_normal, no_jumps_unreachable, no_jumps_terminator}
-use Rattle.book.proofs.Entries.{Within, found_within, top_within, entries_kept, count_kept, target_entries, given_entries, given_count, entries_filed, count_filed, waiting_in_push, count_push}
-use Rattle.book.proofs.Resolving.{Resolves, resolves, count_cons, Counted, counted, jumps_drawn, edges_drawn, none_waits, others_wait}
+use Rattle.book.proofs.Edges.{jump_at_push, jump_at_one, edge_at_more, edges_stay, NoJumps, no_jumps_same, no_jumps_normal, no_jumps_unreachable, no_jumps_terminator}
+use Rattle.book.proofs.Entries.{Within, found_within, top_within, entries_kept, count_kept, target_entries, given_entries, given_count, entries_filed, count_filed, waiting_in_push, count_push, entry_of}
+use Rattle.book.proofs.Resolving.{Resolves, resolves, count_cons, length_resolved, counted, jumps_drawn, edges_drawn, none_waits, others_wait}
 
 -- every one has one of the four fates
 one_fate : (f : Fate) → cond (is_unfiled f) 1 0 + cond (is_waiting f) 1 0 + cond (is_drawn f) 1 0 + cond (is_untargeted f) 1 0 ≡ 1
-one_fate Unfiled = refl
-one_fate (Waiting i) = refl
-one_fate (Drawn x t) = refl
-one_fate Untargeted = refl
+one_fate f = search rules
 
 pub four_fates : (gs : List Given) → length gs ≡ count_fate is_unfiled gs + count_fate is_waiting gs + count_fate is_drawn gs + count_fate is_untargeted gs
 four_fates [] = refl
 four_fates (g ∷ gs) =
-    let h = four_fates gs in
-    let o = one_fate g.fate in
-    let a = count_cons is_unfiled g gs in
-    let b = count_cons is_waiting g gs in
-    let c = count_cons is_drawn g gs in
-    let d = count_cons is_untargeted g gs in
-    omega arith
+    omega (
+      arith,
+      four_fates gs,
+      one_fate g.fate,
+      count_cons is_unfiled g gs,
+      count_cons is_waiting g gs,
+      count_cons is_drawn g gs,
+      count_cons is_untargeted g gs
+    )
 
 pub law_new : (text : List ℕ) → Law (new_book text) new_ledger
 law_new text = record {
@@ -70,9 +69,7 @@ law_blocks k l d q h = record {
 }
 
 law_same_edges : (k : Book) (l : Ledger) (d : BlockState) → d.graph.edges ≡ k.blocks.graph.edges → Law k l → Law (with_blocks d k) l
-law_same_edges k l d e h =
-    let P : List Edge → Type 0 = λ z. NoJumps k.blocks.graph.edges z in
-    law_blocks k l d (subst P (sym e) (no_jumps_same k.blocks.graph.edges)) h
+law_same_edges k l d e h = law_blocks k l d (subst (NoJumps k.blocks.graph.edges) (sym e) (no_jumps_same k.blocks.graph.edges)) h
 
 -- a call that changes the contexts, and leaves their entries
 law_contexts : (k : Book) (l : Ledger) (cs : List Context) → ((i : ℕ) → entries_at i cs ≡ entries_at i k.contexts)
@@ -83,7 +80,7 @@ law_contexts k l cs e w h = record {
   waiting = w ∙ h.waiting;
   drawn = h.drawn;
   untargeted = h.untargeted;
-  total = (let t = h.total in omega arith);
+  total = omega arith;
   entries = λ i. e i ∙ h.entries i;
   edges_stand = h.edges_stand;
   jumps_once = h.jumps_once;
@@ -92,14 +89,11 @@ law_contexts k l cs e w h = record {
 -- no entries past the open contexts
 entries_past : (cs : List Context) (i : ℕ) → length cs ≤ i → entries_at i cs ≡ []
 entries_past [] i p = refl
-entries_past (x ∷ cs) i p = (let q : i ≡ length cs → ⊥ = λ z. omega arith in rw (ne_eqb i (length cs) q) (entries_past cs i (omega arith)))
+entries_past (x ∷ cs) i p = rw (ne_eqb i (length cs) (λ z. omega arith)) (entries_past cs i (omega arith))
 
 law_opened : (k : Book) (l : Ledger) (c : Context) → c.entries ≡ [] → Law k l → Law (with_contexts (c ∷ k.contexts) k) l
-law_opened k l c e h = law_contexts k l (c ∷ k.contexts) same (ap (λ x. length x + waiting_count k.contexts) e ∙ zero_more (waiting_count k.contexts)) h
+law_opened k l c e h = law_contexts k l (c ∷ k.contexts) same (rw e (omega arith)) h
   where
-    zero_more : (n : ℕ) → 0 + n ≡ n
-    zero_more n = omega arith
-
     same : (i : ℕ) → entries_at i (c ∷ k.contexts) ≡ entries_at i k.contexts
     same i = elim (cases_eq i (length k.contexts)) [
       | inl p ↦ rw (eq-eqb i (length k.contexts) p) (e ∙ sym (entries_past k.contexts i (omega arith)))
@@ -111,37 +105,35 @@ edges_push : (es : List Edge) (gs : List Given) (g : Given) → EdgesStand es gs
 edges_push es [] g h s = (s, tt)
 edges_push es (x ∷ gs) g h s = (h.0, edges_push es gs g h.1 s)
 
+filed_waiting : (j : EntryKind) (b : ℕ) (o : Option ℕ) (k : Book) → Within o (length k.contexts)
+    → waiting_count (filed j b o k).contexts ≡ waiting_count k.contexts + cond (is_waiting (first_fate o)) 1 0
+filed_waiting j b None k w = omega arith
+filed_waiting j b (Some m) k w = count_filed j b m k.contexts w
+
+filed_entries : (j : EntryKind) (b : ℕ) (o : Option ℕ) (k : Book) → Within o (length k.contexts) → (i : ℕ)
+    → entries_at i (filed j b o k).contexts ≡ entries_at i k.contexts ++ cond (waits_in i (first_fate o)) (entry_of j b ∷ []) []
+filed_entries j b None k w i = sym (append-nil (entries_at i k.contexts))
+filed_entries j b (Some m) k w i = entries_filed j b m k.contexts w i
+
 law_filed : (j : EntryKind) (b : ℕ) (o : Option ℕ) (k : Book) (l : Ledger) → Within o (length k.contexts) → Law k l → Law (filed j b o k) (given_now j b o l)
-law_filed j b None k l w h =
-    let g : Given = record { kind = j; block = b; fate = Unfiled } in
-    let gs = l.given in
+law_filed j b o k l w h =
+    let g : Given = record { kind = j; block = b; fate = first_fate o } in
     record {
-      given = (let a = length_push gs g in let z = h.given in omega arith);
-      unfiled = (let a = count_push is_unfiled gs g in let z = h.unfiled in omega arith);
-      waiting = (let a = count_push is_waiting gs g in let z = h.waiting in omega arith);
-      drawn = (let a = count_push is_drawn gs g in let z = h.drawn in omega arith);
-      untargeted = (let a = count_push is_untargeted gs g in let z = h.untargeted in omega arith);
-      total = (let z = h.total in omega arith);
-      entries = λ i. h.entries i ∙ sym (waiting_in_push i gs g ∙ append-nil (waiting_in i gs));
-      edges_stand = edges_push k.blocks.graph.edges gs g h.edges_stand tt;
-      jumps_once = λ x. (let a = count_push (drawn_as x) gs g in let z = h.jumps_once x in omega arith);
+      given = grind (arith, length_push l.given g);
+      unfiled = grind (arith, count_push is_unfiled l.given g);
+      waiting = grind (arith, count_push is_waiting l.given g, filed_waiting j b o k w);
+      drawn = grind (arith, count_push is_drawn l.given g);
+      untargeted = grind (arith, count_push is_untargeted l.given g);
+      total = grind (arith, filed_waiting j b o k w);
+      entries = λ i. filed_entries j b o k w i ∙ ap (λ z. z ++ cond (waits_in i g.fate) (entry_of j b ∷ []) []) (h.entries i)
+          ∙ sym (waiting_in_push i l.given g);
+      edges_stand = stand o;
+      jumps_once = λ x. grind (arith, count_push (drawn_as x) l.given g, h.jumps_once x);
     }
-law_filed j b (Some m) k l w h =
-    let g : Given = record { kind = j; block = b; fate = Waiting m } in
-    let gs = l.given in
-    let n = count_filed j b m k.contexts w in
-    record {
-      given = (let a = length_push gs g in let z = h.given in omega arith);
-      unfiled = (let a = count_push is_unfiled gs g in let z = h.unfiled in omega arith);
-      waiting = (let a = count_push is_waiting gs g in let z = h.waiting in omega arith);
-      drawn = (let a = count_push is_drawn gs g in let z = h.drawn in omega arith);
-      untargeted = (let a = count_push is_untargeted gs g in let z = h.untargeted in omega arith);
-      total = (let z = h.total in omega arith);
-      entries = λ i. entries_filed j b m k.contexts w i ∙ ap (λ z. z ++ cond (eqb i m) (record { kind = j; block = b } ∷ []) []) (h.entries i)
-          ∙ sym (waiting_in_push i gs g);
-      edges_stand = edges_push k.blocks.graph.edges gs g h.edges_stand tt;
-      jumps_once = λ x. (let a = count_push (drawn_as x) gs g in let z = h.jumps_once x in omega arith);
-    }
+  where
+    stand : (o : Option ℕ) → EdgesStand (filed j b o k).blocks.graph.edges (given_now j b o l).given
+    stand None = edges_push k.blocks.graph.edges l.given _ h.edges_stand tt
+    stand (Some m) = edges_push k.blocks.graph.edges l.given _ h.edges_stand tt
 
 law_targeted : (j : EntryKind) (t : ℕ) (o : Option ℕ) (k : Book) (l : Ledger) → Law k l → Law (targeted j t o k) l
 law_targeted j t None k l h = h
@@ -157,30 +149,24 @@ law_allowed j (Some i) k l h =
 -- add_edge
 law_edge_taken : (a b : ℕ) (e : EdgeType) (k : Book) (l : Ledger) → Law k l
     → Law (with_blocks (state.linked a b e k.blocks) k) (edge_taken e (length k.blocks.graph.edges) l)
-law_edge_taken a b e k l h = by (is_jump e) refl
-  where
-    es : List Edge
-    es = k.blocks.graph.edges
-
-    by : (t : Bool) → is_jump e ≡ t
-        → Law (with_blocks (state.linked a b e k.blocks) k)
-        (record { given = l.given; taken = cond t (l.taken ++ length k.blocks.graph.edges ∷ []) l.taken })
-    by true j = record {
-      given = h.given;
-      unfiled = h.unfiled;
-      waiting = h.waiting;
-      drawn = h.drawn;
-      untargeted = h.untargeted;
-      total = h.total;
-      entries = h.entries;
-      edges_stand = edges_stay k.blocks.graph.edges _ l.given (λ x f z. edge_at_more k.blocks.graph.edges _ x f z) h.edges_stand;
-      jumps_once = λ x. (
-          let n = sum_by_push (λ (y : ℕ). cond (eqb x y) 1 0) l.taken (length k.blocks.graph.edges) in
-          let m = jump_at_jump k.blocks.graph.edges (record { source = a; target = b; kind = e }) x j in
-          let z = h.jumps_once x in
-          omega arith);
-    }
-    by false j = law_blocks k l (state.linked a b e k.blocks) (no_jumps_push k.blocks.graph.edges (record { source = a; target = b; kind = e }) j) h
+law_edge_taken a b e k l h = record {
+  given = h.given;
+  unfiled = h.unfiled;
+  waiting = h.waiting;
+  drawn = h.drawn;
+  untargeted = h.untargeted;
+  total = h.total;
+  entries = h.entries;
+  edges_stand = edges_stay k.blocks.graph.edges _ l.given (λ x f z. edge_at_more k.blocks.graph.edges _ x f z) h.edges_stand;
+  jumps_once =
+      λ x.
+      grind (
+        arith,
+        h.jumps_once x,
+        sum_by_push (λ (y : ℕ). cond (eqb x y) 1 0) l.taken (length k.blocks.graph.edges),
+        jump_at_push k.blocks.graph.edges (record { source = a; target = b; kind = e }) x
+      );
+}
 
 -- resolve
 law_resolved : (cs : List Context) (k : Book) (l : Ledger) → k.contexts ≡ cs → Law k l
@@ -195,11 +181,13 @@ law_resolved (c ∷ cs) k l e h =
     let own : c.entries ≡ waiting_in i gs = ap (λ z. cond z c.entries (entries_at i cs)) (sym (eq-eqb i i refl)) ∙ at i in
     let P : List Entry → Type 0 = λ z. Resolves c i x gs hs z in
     let r : Resolves c i x gs hs c.entries = subst P (sym own) (resolves c i x gs) in
-    let n : Counted c gs hs c.entries = counted c i x gs hs c.entries r in
+    let n = length_resolved c i x gs hs c.entries r in
+    let a = counted is_unfiled false false false (λ y. refl) (λ y z. refl) refl c i x gs hs c.entries r in
+    let b = counted is_waiting true false false (λ y. refl) (λ y z. refl) refl c i x gs hs c.entries r in
+    let d = counted is_drawn false true false (λ y. refl) (λ y z. refl) refl c i x gs hs c.entries r in
+    let u = counted is_untargeted false false true (λ y. refl) (λ y z. refl) refl c i x gs hs c.entries r in
     let w : waiting_count k.contexts ≡ length c.entries + waiting_count cs = ap waiting_count e in
     let f = four_fates hs in
-    let a = n.all in let b = n.unfiled in let d = n.waiting in let u = n.drawn in let v = n.untargeted in
-    let p = h.given in let q = h.unfiled in let s = h.waiting in let t = h.drawn in let y = h.untargeted in
     record {
       given = omega arith;
       unfiled = omega arith;
@@ -212,10 +200,7 @@ law_resolved (c ∷ cs) k l e h =
         | inr z ↦ ap (λ m. cond m c.entries (entries_at j cs)) (sym (ne_eqb j i z)) ∙ at j ∙ sym (others_wait c i x gs hs c.entries r j z)
       ];
       edges_stand = edges_drawn c i x gs hs c.entries r k.blocks.graph refl h.edges_stand;
-      jumps_once = λ m. (
-          let o = jumps_drawn c i x gs hs c.entries r k.blocks.graph refl m in
-          let z = h.jumps_once m in
-          omega arith);
+      jumps_once = λ m. omega (arith, jumps_drawn c i x gs hs c.entries r k.blocks.graph refl m, h.jumps_once m);
     }
 
 law_upper : (k : Book) (l : Ledger) → Law k l → Law (book.resolved_upper k) (top_resolved k.contexts (length k.blocks.graph.edges) l)
@@ -275,4 +260,4 @@ law_run (c ∷ cs) k l h = law_run cs (step k c) (ledger_step k c l) (law_step c
 
 -- no two are drawn as one edge
 pub law_different : (k : Book) (l : Ledger) → Law k l → (x : ℕ) → count_fate (drawn_as x) l.given ≤ 1
-law_different k l h x = let z = h.jumps_once x in let o = jump_at_one k.blocks.graph.edges x in omega arith
+law_different k l h x = omega (arith, h.jumps_once x, jump_at_one k.blocks.graph.edges x)

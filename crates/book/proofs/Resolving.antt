@@ -6,11 +6,11 @@ use Rattle.std.proofs.lemmas.Bool.{ne_eqb, eqb-true}
 use Rattle.std.specs.List.{slice_get}
 use Rattle.blocks.specs.Blocks.{GraphState, edge_added}
 use Rattle.book.specs.LawOfCounts.{jump_at, EdgesStand}
-use Rattle.book.specs.Ledger.{Fate, Unfiled, Waiting, Drawn, Untargeted, Given, is_unfiled, is_waiting, is_drawn, is_untargeted, waits_in, drawn_as, count_fate, waiting_in, resolved_fate, next_edge, resolved_in}
+use Rattle.book.specs.Ledger.{Fate, Unfiled, Waiting, Drawn, Untargeted, Given, waits_in, drawn_as, count_fate, waiting_in, resolved_fate, next_edge, resolved_in}
 use Rattle.contexts.specs.Contexts.{Context, Entry, target_of, jump_added, entries_drawn, has_target}
 use Rattle.kinds.specs.declared.edge.Edge.{Edge}
 use Rattle.kinds.specs.declared.edge.EdgeType.TheVariants as edge
-use Rattle.book.proofs.Edges.{jump_at_jump, edge_at_more, edge_at_here, Stay, edge_stays, edges_stay}
+use Rattle.book.proofs.Edges.{jump_at_push, edge_at_more, edge_at_here, Stay, edge_stays, edges_stay}
 use Rattle.book.proofs.Entries.{entry_of}
 
 -- x is the number of the next edge; gs is the ledger before, hs after, and es are the entries
@@ -24,10 +24,10 @@ pub data Resolves (c : Context) (i : ℕ) : ℕ → List Given → List Given �
       Resolves c i x (g ∷ gs) (record { kind = g.kind; block = g.block; fate = Drawn x t } ∷ hs) (entry_of g.kind g.block ∷ es)
 
 waits : (i : ℕ) (f : Fate) → waits_in i f ≡ true → f ≡ Waiting i
-waits i Unfiled h = absurd (let z : ◌≡◌ {A = ℕ} 0 1 = cc in omega arith)
+waits i Unfiled h = cc
 waits i (Waiting j) h = ap Waiting (sym (eqb-true i j h))
-waits i (Drawn x t) h = absurd (let z : ◌≡◌ {A = ℕ} 0 1 = cc in omega arith)
-waits i Untargeted h = absurd (let z : ◌≡◌ {A = ℕ} 0 1 = cc in omega arith)
+waits i (Drawn x t) h = cc
+waits i Untargeted h = cc
 
 pub resolves : (c : Context) (i x : ℕ) (gs : List Given) → Resolves c i x gs (resolved_in c i x gs) (waiting_in i gs)
 resolves c i x [] = none x
@@ -52,60 +52,49 @@ count_cons p g gs = sum_by-cons (λ (x : Given). cond (p x.fate) 1 0) g gs
 count_at : (p : Fate → Bool) (g : Given) (f : Fate) (gs : List Given) → g.fate ≡ f → count_fate p (g ∷ gs) ≡ cond (p f) 1 0 + count_fate p gs
 count_at p g f gs e = count_cons p g gs ∙ ap (λ z. cond (p z) 1 0 + count_fate p gs) e
 
-targets : (c : Context) (g : Given) (es : List Entry) (o : Option ℕ) → target_of g.kind c ≡ o
-    → count_by (has_target c) (entry_of g.kind g.block ∷ es) ≡ cond (is_some o) 1 0 + count_by (has_target c) es
-targets c g es o e = sum_by-cons (λ (x : Entry). cond (has_target c x) 1 0) (entry_of g.kind g.block) es
-    ∙ ap (λ z. cond (is_some z) 1 0 + count_by (has_target c) es) e
+count_entry : (q : Option ℕ → Bool) (c : Context) (g : Given) (es : List Entry) (o : Option ℕ) → target_of g.kind c ≡ o
+    → count_by (λ (e : Entry). q (target_of e.kind c)) (entry_of g.kind g.block ∷ es)
+    ≡ cond (q o) 1 0 + count_by (λ (e : Entry). q (target_of e.kind c)) es
+count_entry q c g es o e = sum_by-cons (λ (x : Entry). cond (q (target_of x.kind c)) 1 0) (entry_of g.kind g.block) es
+    ∙ ap (λ z. cond (q z) 1 0 + count_by (λ (x : Entry). q (target_of x.kind c)) es) e
 
-untargets : (c : Context) (g : Given) (es : List Entry) (o : Option ℕ) → target_of g.kind c ≡ o
-    → count_by (λ (e : Entry). not (has_target c e)) (entry_of g.kind g.block ∷ es)
-    ≡ cond (not (is_some o)) 1 0 + count_by (λ (e : Entry). not (has_target c e)) es
-untargets c g es o e = sum_by-cons (λ (x : Entry). cond (not (has_target c x)) 1 0) (entry_of g.kind g.block) es
-    ∙ ap (λ z. cond (not (is_some z)) 1 0 + count_by (λ (y : Entry). not (has_target c y)) es) e
+pub length_resolved : (c : Context) (i x : ℕ) (gs hs : List Given) (es : List Entry) → Resolves c i x gs hs es → length hs ≡ length gs
+length_resolved c i x _ _ _ (none _) = refl
+length_resolved c i x _ _ _ (skip _ g gs hs es w r) = ap suc (length_resolved c i x gs hs es r)
+length_resolved c i x _ _ _ (miss _ g gs hs es f e r) = ap suc (length_resolved c i x gs hs es r)
+length_resolved c i x _ _ _ (draw _ t g gs hs es f e r) = ap suc (length_resolved c i (suc x) gs hs es r)
 
--- the counts
-pub record Counted (c : Context) (gs hs : List Given) (es : List Entry) : Type 0 where
-  pub all : length hs ≡ length gs
-  pub unfiled : count_fate is_unfiled hs ≡ count_fate is_unfiled gs
-  pub waiting : count_fate is_waiting hs + length es ≡ count_fate is_waiting gs
-  pub drawn : count_fate is_drawn hs ≡ count_fate is_drawn gs + count_by (has_target c) es
-  pub untargeted : count_fate is_untargeted hs ≡ count_fate is_untargeted gs + count_by (λ (e : Entry). not (has_target c e)) es
-
-pub counted : (c : Context) (i x : ℕ) (gs hs : List Given) (es : List Entry) → Resolves c i x gs hs es → Counted c gs hs es
-counted c i x _ _ _ (none _) = record { all = refl; unfiled = refl; waiting = refl; drawn = refl; untargeted = refl }
-counted c i x _ _ _ (skip _ g gs hs es w r) =
-    let h = counted c i x gs hs es r in
-    record {
-      all = ap suc h.all;
-      unfiled = (let a = count_cons is_unfiled g gs in let b = count_cons is_unfiled g hs in let z = h.unfiled in omega arith);
-      waiting = (let a = count_cons is_waiting g gs in let b = count_cons is_waiting g hs in let z = h.waiting in omega arith);
-      drawn = (let a = count_cons is_drawn g gs in let b = count_cons is_drawn g hs in let z = h.drawn in omega arith);
-      untargeted = (let a = count_cons is_untargeted g gs in let b = count_cons is_untargeted g hs in let z = h.untargeted in omega arith);
-    }
-counted c i x _ _ _ (miss _ g gs hs es f e r) =
-    let h = counted c i x gs hs es r in
+-- the count of a set of fates that has those that wait, or are drawn, or are untargeted, or none of them
+pub counted : (p : Fate → Bool) (w d u : Bool) → ((j : ℕ) → p (Waiting j) ≡ w) → ((y t : ℕ) → p (Drawn y t) ≡ d) → p Untargeted ≡ u
+    → (c : Context) (i x : ℕ) (gs hs : List Given) (es : List Entry) → Resolves c i x gs hs es
+    → count_fate p hs + cond w (length es) 0
+    ≡ count_fate p gs + cond d (count_by (has_target c) es) 0 + cond u (count_by (λ (e : Entry). not (has_target c e)) es) 0
+counted p w d u pw pd pu c i x _ _ _ (none _) = grind arith
+counted p w d u pw pd pu c i x _ _ _ (skip _ g gs hs es _ r) =
+    omega (arith, counted p w d u pw pd pu c i x gs hs es r, count_cons p g gs, count_cons p g hs)
+counted p w d u pw pd pu c i x _ _ _ (miss _ g gs hs es f e r) =
     let g' : Given = record { kind = g.kind; block = g.block; fate = Untargeted } in
-    record {
-      all = ap suc h.all;
-      unfiled = (let a = count_at is_unfiled g (Waiting i) gs f in let b = count_cons is_unfiled g' hs in let z = h.unfiled in omega arith);
-      waiting = (let a = count_at is_waiting g (Waiting i) gs f in let b = count_cons is_waiting g' hs in let z = h.waiting in omega arith);
-      drawn = (let a = count_at is_drawn g (Waiting i) gs f in let b = count_cons is_drawn g' hs in let t = targets c g es None e in let z = h.drawn in
-          omega arith);
-      untargeted = (let a = count_at is_untargeted g (Waiting i) gs f in let b = count_cons is_untargeted g' hs in let t = untargets c g es None e in
-          let z = h.untargeted in omega arith);
-    }
-counted c i x _ _ _ (draw _ t g gs hs es f e r) =
-    let h = counted c i (suc x) gs hs es r in
+    grind (
+      arith,
+      counted p w d u pw pd pu c i x gs hs es r,
+      count_at p g (Waiting i) gs f,
+      pw i,
+      count_cons p g' hs,
+      count_entry is_some c g es None e,
+      count_entry (λ o. not (is_some o)) c g es None e
+    )
+counted p w d u pw pd pu c i x _ _ _ (draw _ t g gs hs es f e r) =
     let g' : Given = record { kind = g.kind; block = g.block; fate = Drawn x t } in
-    record {
-      all = ap suc h.all;
-      unfiled = (let a = count_at is_unfiled g (Waiting i) gs f in let b = count_cons is_unfiled g' hs in let z = h.unfiled in omega arith);
-      waiting = (let a = count_at is_waiting g (Waiting i) gs f in let b = count_cons is_waiting g' hs in let z = h.waiting in omega arith);
-      drawn = (let a = count_at is_drawn g (Waiting i) gs f in let b = count_cons is_drawn g' hs in let u = targets c g es (Some t) e in let z = h.drawn in
-          omega arith);
-      untargeted = (let a = count_at is_untargeted g (Waiting i) gs f in let b = count_cons is_untargeted g' hs in let u = untargets c g es (Some t) e in
-          let z = h.untargeted in omega arith);
-    }
+    grind (
+      arith,
+      counted p w d u pw pd pu c i (suc x) gs hs es r,
+      count_at p g (Waiting i) gs f,
+      pw i,
+      pd x t,
+      count_cons p g' hs,
+      count_entry is_some c g es (Some t) e,
+      count_entry (λ o. not (is_some o)) c g es (Some t) e
+    )
 
 -- each edge that is drawn is new
 pub jumps_drawn : (c : Context) (i x : ℕ) (gs hs : List Given) (es : List Entry) → Resolves c i x gs hs es → (p : GraphState) → length p.edges ≡ x
@@ -113,28 +102,27 @@ pub jumps_drawn : (c : Context) (i x : ℕ) (gs hs : List Given) (es : List Entr
     jump_at (entries_drawn c es p).edges y + count_fate (drawn_as y) gs ≡ jump_at p.edges y + count_fate (drawn_as y) hs
 jumps_drawn c i x _ _ _ (none _) p n y = refl
 jumps_drawn c i x _ _ _ (skip _ g gs hs es w r) p n y =
-    let h = jumps_drawn c i x gs hs es r p n y in
-    let a = count_cons (drawn_as y) g gs in
-    let b = count_cons (drawn_as y) g hs in
-    omega arith
+    omega (arith, jumps_drawn c i x gs hs es r p n y, count_cons (drawn_as y) g gs, count_cons (drawn_as y) g hs)
 jumps_drawn c i x _ _ _ (miss _ g gs hs es f e r) p n y =
-    let h = jumps_drawn c i x gs hs es r p n y in
     let g' : Given = record { kind = g.kind; block = g.block; fate = Untargeted } in
-    let a = count_at (drawn_as y) g (Waiting i) gs f in
-    let b = count_cons (drawn_as y) g' hs in
-    let d = ap (λ o. jump_at (entries_drawn c es (jump_added g.block o p)).edges y) e in
-    omega arith
+    omega (
+      arith,
+      jumps_drawn c i x gs hs es r p n y,
+      count_at (drawn_as y) g (Waiting i) gs f,
+      count_cons (drawn_as y) g' hs,
+      ap (λ o. jump_at (entries_drawn c es (jump_added g.block o p)).edges y) e
+    )
 jumps_drawn c i x _ _ _ (draw _ t g gs hs es f e r) p n y =
-    let q : GraphState = edge_added g.block t edge.Jump p in
     let new : Edge = record { source = g.block; target = t; kind = edge.Jump } in
-    let l : length q.edges ≡ suc x = (let z = length_push p.edges new in omega arith) in
-    let h = jumps_drawn c i (suc x) gs hs es r q l y in
+    let h = jumps_drawn c i (suc x) gs hs es r (edge_added g.block t edge.Jump p) (omega (arith, length_push p.edges new)) y in
     let g' : Given = record { kind = g.kind; block = g.block; fate = Drawn x t } in
-    let a = count_at (drawn_as y) g (Waiting i) gs f in
-    let b = count_cons (drawn_as y) g' hs in
-    let d = ap (λ o. jump_at (entries_drawn c es (jump_added g.block o p)).edges y) e in
-    let j = jump_at_jump p.edges new y refl ∙ ap (λ m. jump_at p.edges y + cond (eqb y m) 1 0) n in
-    omega arith
+    omega (
+      arith,
+      count_at (drawn_as y) g (Waiting i) gs f,
+      count_cons (drawn_as y) g' hs,
+      ap (λ o. jump_at (entries_drawn c es (jump_added g.block o p)).edges y) e,
+      jump_at_push p.edges new y ∙ ap (λ m. jump_at p.edges y + cond (eqb y m) 1 0) n
+    )
 
 -- each edge that is drawn stands, and the others still do
 jump_stay : (b : ℕ) (o : Option ℕ) (p : GraphState) → Stay p.edges (jump_added b o p).edges
@@ -151,18 +139,15 @@ edges_drawn c i x _ _ _ (none _) p n s = tt
 edges_drawn c i x _ _ _ (skip _ g gs hs es w r) p n s =
     (edge_stays p.edges _ g.block g.fate (drawn_stay c es p) s.0, edges_drawn c i x gs hs es r p n s.1)
 edges_drawn c i x _ _ _ (miss _ g gs hs es f e r) p n s =
-    let P : Option ℕ → Type 0 = λ o. EdgesStand (entries_drawn c es (jump_added g.block o p)).edges hs in
-    (tt, subst P (sym e) (edges_drawn c i x gs hs es r p n s.1))
+    (tt, subst (λ o. EdgesStand (entries_drawn c es (jump_added g.block o p)).edges hs) (sym e) (edges_drawn c i x gs hs es r p n s.1))
 edges_drawn c i x _ _ _ (draw _ t g gs hs es f e r) p n s =
     let q : GraphState = edge_added g.block t edge.Jump p in
     let new : Edge = record { source = g.block; target = t; kind = edge.Jump } in
-    let l : length q.edges ≡ suc x = (let z = length_push p.edges new in omega arith) in
-    let P : Option ℕ → Type 0 = λ o. EdgesStand (entries_drawn c es (jump_added g.block o p)).edges hs in
-    let Q : Option ℕ → Type 0 = λ o. slice_get (entries_drawn c es (jump_added g.block o p)).edges x ≡ Some new in
-    let here : slice_get q.edges x ≡ Some new = ap (slice_get q.edges) (sym n) ∙ edge_at_here p.edges new in (
-      subst Q (sym e) (drawn_stay c es q x new here),
-      subst P (sym e)
-          (edges_drawn c i (suc x) gs hs es r q l (edges_stay p.edges q.edges gs (λ y z h. edge_at_more p.edges _ y z h) s.1)),
+    let l : length q.edges ≡ suc x = omega (arith, length_push p.edges new) in
+    let here : slice_get q.edges x ≡ Some new = ap (slice_get q.edges) (sym n) ∙ edge_at_here p.edges new in
+    subst (λ o. EdgesStand (entries_drawn c es (jump_added g.block o p)).edges (record { kind = g.kind; block = g.block; fate = Drawn x t } ∷ hs)) (sym e) (
+      drawn_stay c es q x new here,
+      edges_drawn c i (suc x) gs hs es r q l (edges_stay p.edges q.edges gs (λ y z h. edge_at_more p.edges _ y z h) s.1),
     )
 
 -- nothing waits in the context any more, and in the others what did

@@ -1,6 +1,6 @@
 -- The law of cycles.
-use Rattle.std.proofs.Common.{◌≡◌, ℕ, ◌<◌, Bool, true, false, cond, eqb, [], ◌∷◌, is_some, Some, None, Option, refl, ap, arith, eq-eqb, eqb-true}
-use mathlib.Core.Bool.{false≢true}
+use Rattle.std.proofs.Common.{◌≡◌, ℕ, ◌<◌, cond, [], ◌∷◌, is_some, Some, None, Option, refl, ap, arith, eq-eqb, ne_eqb}
+use Rattle.std.proofs.lemmas.Bool.{false≢true}
 use Rattle.graph.specs.Meaning.{Sound, Meaning}
 use Rattle.walk.specs.declared.event.Control.TheVariants.{Continue, Break}
 use Rattle.walk.specs.declared.mark.Mark.{Mark}
@@ -13,14 +13,10 @@ use Rattle.walk.proofs.Marks.{mark_as_same}
 use Rattle.walk.proofs.Seek.{Seeks, seek, Answer}
 use Rattle.walk.proofs.Ways.{way_map}
 
-back_true : (c : Bool) (b : Unit {0}) → cond c (Break tt) Continue ≡ Break b → c ≡ true
-back_true true b h = refl
-back_true false b h = let z : ◌≡◌ {A = ℕ} 0 1 = cc in absurd (omega arith)
-
 cycle_found : (u : ℕ) (m : Mark) (a v : ℕ) (b : Unit {0}) → cycle_reply u (event_of m a v) ≡ Break b → Unit {0} × (v ≡ u) × Unit {0}
-cycle_found u New a v b h = let z : ◌≡◌ {A = ℕ} 0 1 = cc in absurd (omega arith)
-cycle_found u Open a v b h = (tt, eqb-true v u (back_true (eqb v u) b h), tt)
-cycle_found u Done a v b h = let z : ◌≡◌ {A = ℕ} 0 1 = cc in absurd (omega arith)
+cycle_found u New a v b h = absurd cc
+cycle_found u Open a v b h = (tt, grind (arith, ne_eqb), tt)
+cycle_found u Done a v b h = absurd cc
 
 cycle_seeks : (G : Meaning) (u : ℕ) → Seeks (cycle_visitor u) G (λ a b. Unit {0}) u u Open (λ x. Unit {0}) (λ b. Unit {0})
 cycle_seeks G u = record {

@@ -3,14 +3,14 @@ use Rattle.std.proofs.Common.{◌≡◌, ℕ, zero, suc, ◌<◌, ◌≤◌, Lis
 use Rattle.graph.specs.Meaning.{Sound, Meaning}
 use Rattle.walk.specs.declared.event.Control.{Control}
 use Rattle.walk.specs.declared.event.Control.TheVariants.{Continue, Prune, Break}
-use Rattle.walk.specs.declared.event.DfsEvent.TheVariants.{Discover, TreeEdge}
+use Rattle.walk.specs.declared.event.DfsEvent.TheVariants.{Discover}
 use Rattle.walk.specs.declared.mark.Mark.{Mark}
 use Rattle.walk.specs.declared.mark.Mark.TheVariants.{New, Open, Done}
 use Rattle.walk.specs.DepthSuffices.{DepthSuffices}
 use Rattle.walk.specs.Marks.{mark_as, unseen}
-use Rattle.walk.specs.Walk.{Visitor, State, stop_of, report, discover, finish, close, edge, scan, opening, starts, begin, if_continue, unless_ended, start_marked, start}
-use Rattle.walk.proofs.Induct.{edge_marked, Stays, Laws, scan_ended, open_law}
-use Rattle.walk.proofs.Marks.{Grow, grow_refl, grow_trans, grow_mark_as, unseen_grow, unseen_mark_as, unseen_most}
+use Rattle.walk.specs.Walk.{Visitor, State, stop_of, discover, finish, close, edge, scan, opening, starts, begin, if_continue, unless_ended, start_marked, start}
+use Rattle.walk.proofs.Induct.{close_running, close_ended, edge_marked, edge_entered, edge_passed, Laws, scan_ended, open_law}
+use Rattle.walk.proofs.Marks.{Grow, grow_mark_as, unseen_grow, unseen_mark_as, unseen_most}
 use Rattle.walk.proofs.Starts.{Blocks}
 
 module _ {S B : Type 0} (V : Visitor S B) (G : Meaning) where
@@ -34,70 +34,43 @@ module _ {S B : Type 0} (V : Visitor S B) (G : Meaning) where
     grown : Grow s.mark (mark_as u Open s.mark)
     grown = grow_mark_as u Open s.mark tt
 
-    -- the bound is above 0, and one less does for what stands inside
-    deep : (s' : State S B) → ((d : ℕ) → unseen (discover V u s).mark G.size ≤ d → close V u (inner d u s reply) ≡ s') → (d : ℕ)
-        → unseen s.mark G.size ≤ d → opening V G d u s ≡ s'
+    -- what stands inside ends in s₁, whatever bound does for it, and the close of u in s'
+    opened : (c : Control B) (s₁ s' : State S B) → reply ≡ c → ((d : ℕ) → unseen (discover V u s).mark G.size ≤ d → inner d u s c ≡ s₁)
+        → close V u s₁ ≡ s' → (d : ℕ) → unseen s.mark G.size ≤ d → opening V G d u s ≡ s'
     unfolding opening
-    deep s' f zero h = absurd (let k = unseen_mark_as u Open s.mark tt m G.size l in omega arith)
-    deep s' f (suc d) h = f d (let k = unseen_mark_as u Open s.mark tt m G.size l in omega arith)
-
-    -- the list of u is not read
-    unread : (c : Control B) (s' : State S B) → reply ≡ c → ((d : ℕ) → inner d u s c ≡ discover V u s)
-        → unless_ended (stop_of c) (discover V u s) (finish V u (discover V u s)) ≡ s' → (d : ℕ) → close V u (inner d u s reply) ≡ s'
-    unread c s' e same f d =
-        ap (λ k. close V u (inner d u s k)) e ∙ ap (close V u) (same d)
-        ∙ ap (λ k. unless_ended (stop_of k) (discover V u s) (finish V u (discover V u s))) e ∙ f
-
-    -- the list of u is read
-    read : (s₁ s' : State S B) → reply ≡ Continue → Q u (G.neighbors u) (discover V u s) s₁ → close V u s₁ ≡ s' → (d : ℕ)
-        → unseen (discover V u s).mark G.size ≤ d → close V u (inner d u s reply) ≡ s'
-    read s₁ s' e q f d h = ap (λ k. close V u (inner d u s k)) e ∙ ap (close V u) (q.1 d h) ∙ f
-
-  stay : (c : Control B) (s s' : State S B) → Stays V G c → if_continue c s s' ≡ s
-  stay Continue s s' h = absurd h
-  stay Prune s s' h = refl
-  stay (Break b) s s' h = refl
+    opened c s₁ s' e f g zero h = absurd (let k = unseen_mark_as u Open s.mark tt m G.size l in omega arith)
+    opened c s₁ s' e f g (suc d) h =
+        let k = unseen_mark_as u Open s.mark tt m G.size l in
+        ap (λ k. close V u (inner d u s k)) e ∙ ap (close V u) (f d (omega arith)) ∙ g
 
   laws : Laws V G P E Q
   unfolding scan
   laws = record {
     open_halt =
-        λ u s r m l b e. (grown u s m l, deep u s m l (discover V u s) (λ d h. unread u s m l (Break b) (discover V u s) e (λ k. refl) refl d));
+        λ u s r m l b e. (
+          grown u s m l,
+          opened u s m l (Break b) (discover V u s) (discover V u s) e (λ d h. refl) (close_ended V G u (discover V u s) b (ap stop_of e)),
+        );
     open_prune =
         λ u s r m l e. (
-          grow_trans s.mark (mark_as u Open s.mark) (mark_as u Done (mark_as u Open s.mark)) (grown u s m l) (grow_mark_as u Done (mark_as u Open s.mark) tt),
-          deep u s m l (finish V u (discover V u s)) (λ d h. unread u s m l Prune (finish V u (discover V u s)) e (λ k. refl) refl d),
+          λ w t. grow_mark_as u Done (mark_as u Open s.mark) tt w (grown u s m l w t),
+          opened u s m l Prune (discover V u s) (finish V u (discover V u s)) e (λ d h. refl) (close_running V G u (discover V u s) (ap stop_of e)),
         );
     open_stop =
-        λ u s r m l e s' q b h. (
-          grow_trans s.mark (mark_as u Open s.mark) s'.mark (grown u s m l) q.0,
-          deep u s m l s' (read u s m l s' s' e q (ap (λ o. unless_ended o s' (finish V u s')) h)),
-        );
+        λ u s r m l e s' q b h. (λ w t. q.0 w (grown u s m l w t), opened u s m l Continue s' s' e q.1 (close_ended V G u s' b h));
     open_go =
         λ u s r m l e s' q z. (
-          grow_trans s.mark s'.mark (mark_as u Done s'.mark) (grow_trans s.mark (mark_as u Open s.mark) s'.mark (grown u s m l) q.0) (grow_mark_as u Done s'.mark tt),
-          deep u s m l (finish V u s') (read u s m l s' (finish V u s') e q (ap (λ o. unless_ended o s' (finish V u s')) z)),
+          λ w t. grow_mark_as u Done s'.mark tt w (q.0 w (grown u s m l w t)),
+          opened u s m l Continue s' (finish V u s') e q.1 (close_running V G u s' z),
         );
-    tree_stay =
-        λ u v s r i m t. (
-          grow_refl s.mark,
-          λ d h.
-              edge_marked V G (opening V G d) u v New s r m
-              ∙ stay (V.reply s.visitor (TreeEdge u v)) (report V (TreeEdge u v) s) (opening V G d v (report V (TreeEdge u v) s)) t,
-        );
-    tree_go =
-        λ u v s r i m e s' p. (
-          p.0,
-          λ d h.
-              edge_marked V G (opening V G d) u v New s r m
-              ∙ ap (λ c. if_continue c (report V (TreeEdge u v) s) (opening V G d v (report V (TreeEdge u v) s))) e ∙ p.1 d h,
-        );
-    back = λ u v s r i m. (grow_refl s.mark, λ d h. edge_marked V G (opening V G d) u v Open s r m);
-    cross = λ u v s r i m. (grow_refl s.mark, λ d h. edge_marked V G (opening V G d) u v Done s r m);
-    nil = λ u s r. (grow_refl s.mark, λ d h. refl);
+    tree_stay = λ u v s r i m t. (λ w t. t, λ d h. edge_passed V G (opening V G d) u v New s r m (λ _. t));
+    tree_go = λ u v s r i m e s' p. (p.0, λ d h. edge_entered V G (opening V G d) u v s r m e ∙ p.1 d h);
+    back = λ u v s r i m. (λ w t. t, λ d h. edge_marked V G (opening V G d) u v Open s r m);
+    cross = λ u v s r i m. (λ w t. t, λ d h. edge_marked V G (opening V G d) u v Done s r m);
+    nil = λ u s r. (λ w t. t, λ d h. refl);
     cons =
         λ u v vs s s₁ s₂ r e r₁ q. (
-          grow_trans s.mark s₁.mark s₂.mark e.0 q.0,
+          λ w t. q.0 w (e.0 w t),
           λ d h. ap (scan V (opening V G d) u vs) (e.1 d h) ∙ q.1 d (let k = unseen_grow s.mark s₁.mark e.0 G.size in omega arith),
         );
     halt = λ u v vs s s₁ r e b z. (e.0, λ d h. ap (scan V (opening V G d) u vs) (e.1 d h) ∙ scan_ended V G (opening V G d) u vs s₁ b z);

@@ -1,60 +1,53 @@
 -- Where a way leads, a fewest number of steps leads.
-use native.Mathlib.Decide.{ℕ_discrete}
-use Rattle.std.proofs.Common.{◌≡◌, ℕ, zero, suc, ◌+◌, ◌≤◌, ◌≢◌, List, [], ◌∷◌, sym, refl, ◌∙◌, subst, inl, inr, add-zero, add-suc, suc-add, arith}
+use Rattle.std.proofs.Common.{ℕ, zero, suc, ◌≤◌, ◌⊎◌, ◌≡◌, List, [], ◌∷◌, refl, inl, inr, arith}
+use Rattle.std.proofs.lemmas.Bool.{cases_eq}
 use Rattle.graph.specs.Meaning.{Member}
 use Rattle.walk.specs.Ways.{Way, here, on, Distance}
 
 module _ (P : ℕ → Type 0) (d : (k : ℕ) → Dec (P k)) where
-  from : (gap m : ℕ) → ((j : ℕ) → P j → m ≤ j) → P (m + gap) → (k : ℕ) × P k × ((j : ℕ) → P j → k ≤ j)
-  from zero m a p = (m, subst P (add-zero m) p, a)
-  from (suc gap) m a p = by (d m) (λ b. from gap (suc m) b (subst P (add-suc m gap ∙ sym (suc-add m gap)) p))
-    where
-      by : Dec (P m) → (((j : ℕ) → P j → suc m ≤ j) → (k : ℕ) × P k × ((j : ℕ) → P j → k ≤ j)) → (k : ℕ) × P k × ((j : ℕ) → P j → k ≤ j)
-      by (yes p') ih = (m, p', a)
-      by (no n) ih = ih (λ j q. let l = a j q in let e : m ≢ j = λ e. n (subst P (sym e) q) in omega arith)
+  -- the least is below k, or there is none there
+  below : (k : ℕ) → ((m : ℕ) × P m × ((j : ℕ) → P j → m ≤ j)) ⊎ ((j : ℕ) → P j → k ≤ j)
+  below zero = inr (λ j p. omega arith)
+  below (suc k) = elim (below k) [
+    | inl h ↦ inl h
+    | inr a ↦ elim (d k) [
+      | yes p ↦ inl (k, p, a)
+      | no n ↦ inr (λ j p. let l = a j p in let e : k ≡ j → ⊥ = λ e. n (rw e p) in omega (arith, e))
+    ]
+  ]
 
-  pub least : (k : ℕ) → P k → (d : ℕ) × P d × ((j : ℕ) → P j → d ≤ j)
-  least k p = from k 0 (λ j _. omega arith) (subst P (sym (zero_plus k)) p)
-    where
-      zero_plus : (k : ℕ) → 0 + k ≡ k
-      zero_plus k = omega arith
+  least : (k : ℕ) → P k → (m : ℕ) × P m × ((j : ℕ) → P j → m ≤ j)
+  least k p = elim (below (suc k)) [ inl h ↦ h | inr a ↦ absurd (let l = a k p in omega arith) ]
+
+-- whether some number of the list is so
+any? : (P : ℕ → Type 0) (vs : List ℕ) → ((v : ℕ) → Member v vs → Dec (P v)) → Dec ((x : ℕ) × Member x vs × P x)
+any? P [] d = no (λ h. absurd h.1)
+any? P (v ∷ vs) d = elim (d v (inl refl)) [
+  | yes p ↦ yes (v, inl refl, p)
+  | no n ↦ elim (any? P vs (λ w j. d w (inr j))) [
+    | yes h ↦ yes (h.0, inr h.1, h.2)
+    | no r ↦ no (λ h. elim h.1 [ inl e ↦ n (rw (← e) h.2) | inr j ↦ r (h.0, j, h.2) ])
+  ]
+]
 
 module _ (out : ℕ → List ℕ) (step : ℕ → ℕ → Type 0) (listed : (a b : ℕ) → step a b → Member b (out a))
     (dec : (a b : ℕ) → Member b (out a) → Dec (step a b)) where
-  first : {a k b : ℕ} → Way step a (suc k) b → (x : ℕ) × step a x × Way step x k b
-  first (on {v = x} s w) = (x, s, w)
+  first : {a k b : ℕ} → Way step a (suc k) b → (x : ℕ) × Member x (out a) × (step a x × Way step x k b)
+  first (on {u = a} {v = x} s w) = (x, listed a x s, (s, w))
 
-  end : {a k b : ℕ} → Way step a k b → k ≡ 0 → a ≡ b
-  end here e = refl
-  end (on s w) e = absurd (omega arith)
-
-  -- whether some block of the list is a first step of a way of k more
-  any_of : (k a b : ℕ) → ((x : ℕ) → Dec (Way step x k b)) → (vs : List ℕ) → ((v : ℕ) → Member v vs → Member v (out a))
-      → Dec ((x : ℕ) × Member x vs × step a x × Way step x k b)
-  any_of k a b d [] i = no (λ h. absurd h.1)
-  any_of k a b d (v ∷ vs) i = by (dec a v (i v (inl refl))) (d v) (any_of k a b d vs (λ w j. i w (inr j)))
-    where
-      other : (step a v × Way step v k b → ⊥) → ((x : ℕ) × Member x vs × step a x × Way step x k b → ⊥)
-          → (x : ℕ) × Member x (v ∷ vs) × step a x × Way step x k b → ⊥
-      other p q (x, inl e, s, w) = p (subst (step a) e s, subst (λ y. Way step y k b) e w)
-      other p q (x, inr j, s, w) = q (x, j, s, w)
-
-      more : (step a v × Way step v k b → ⊥) → Dec ((x : ℕ) × Member x vs × step a x × Way step x k b)
-          → Dec ((x : ℕ) × Member x (v ∷ vs) × step a x × Way step x k b)
-      more p (yes h) = yes (h.0, inr h.1, h.2, h.3)
-      more p (no q) = no (other p q)
-
-      by : Dec (step a v) → Dec (Way step v k b) → Dec ((x : ℕ) × Member x vs × step a x × Way step x k b)
-          → Dec ((x : ℕ) × Member x (v ∷ vs) × step a x × Way step x k b)
-      by (yes s) (yes w) r = yes (v, inl refl, s, w)
-      by (yes s) (no n) r = more (λ p. n p.1) r
-      by (no n) w r = more (λ p. n p.0) r
+  end : {a b : ℕ} → Way step a zero b → a ≡ b
+  end here = refl
 
   way? : (k a b : ℕ) → Dec (Way step a k b)
-  way? zero a b = elim (ℕ_discrete a b) [ yes e ↦ yes (subst (λ x. Way step a zero x) e here) | no n ↦ no (λ w. n (end w refl)) ]
+  way? zero a b = elim (cases_eq a b) [ inl e ↦ yes (rw e here) | inr n ↦ no (λ w. n (end w)) ]
   way? (suc k) a b =
-      elim
-      (any_of k a b (λ x. way? k x b) (out a) (λ v i. i)) [ yes h ↦ yes (on h.2 h.3) | no n ↦ no (λ w. let f = first w in n (f.0, listed a f.0 f.1, f.1, f.2)) ]
+      elim (any? (λ x. step a x × Way step x k b) (out a) (λ x i. both (dec a x i) (way? k x b)))
+      [ yes h ↦ yes (on h.2.0 h.2.1) | no n ↦ no (λ w. n (first w)) ]
+    where
+      both : {A C : Type 0} → Dec A → Dec C → Dec (A × C)
+      both (yes p) (yes q) = yes (p, q)
+      both (yes p) (no r) = no (λ h. r h.1)
+      both (no r) q = no (λ h. r h.0)
 
   pub distance : (a b k : ℕ) → Way step a k b → (d : ℕ) × Distance step a b d
   distance a b k w = let l = least (λ j. Way step a j b) (λ j. way? j a b) k w in (l.0, record { way = l.1; fewest = l.2 })

@@ -1,6 +1,6 @@
 -- The law of reach.
-use Rattle.std.proofs.Common.{◌≡◌, ℕ, suc, ◌<◌, Bool, true, false, cond, eqb, ◌≢◌, ◌⊎◌, ◌↔◌, [], ◌∷◌, Some, None, Option, unwrap_or, sym, refl, ap, ◌∙◌, subst, inl, inr, arith, eq-eqb, ne_eqb, eqb-true}
-use mathlib.Core.Bool.{false≢true, Bool-discrete}
+use Rattle.std.proofs.Common.{◌≡◌, ℕ, suc, ◌<◌, Bool, true, false, eqb, ◌≢◌, ◌↔◌, [], ◌∷◌, Some, None, Option, unwrap_or, sym, refl, inl, inr, eq-eqb, ne_eqb, eqb-true}
+use Rattle.std.proofs.lemmas.Bool.{cases_eq, false≢true}
 use Rattle.graph.specs.Meaning.{Sound, Member, Meaning}
 use Rattle.walk.specs.declared.event.Control.{Control}
 use Rattle.walk.specs.declared.event.Control.TheVariants.{Continue, Prune, Break}
@@ -12,7 +12,7 @@ use Rattle.walk.specs.Walk.{State, walk, if_continue}
 use Rattle.walk.specs.Ways.{Way, here, on, Distance}
 use Rattle.walk.proofs.Cases.{event_of}
 use Rattle.walk.proofs.Least.{distance}
-use Rattle.walk.proofs.Marks.{same_or_not, mark_as_other}
+use Rattle.walk.proofs.Marks.{mark_as_other}
 use Rattle.walk.proofs.Seek.{Seeks, seek, Answer}
 use Rattle.walk.proofs.Ways.{way_map}
 
@@ -26,58 +26,47 @@ tree_reply c p t = if_continue c c (step_reply p t)
 
 tree_break : (c : Control Bool) (p t b : Bool) → ((x : Bool) → c ≡ Break x → ⊥) → tree_reply c p t ≡ Break b
     → (p ≡ true) × (c ≡ Continue) × (t ≡ true) × (b ≡ true)
-tree_break Continue false t b n h = let z : ◌≡◌ {A = ℕ} 0 1 = cc in absurd (omega arith)
-tree_break Continue true false b n h = let z : ◌≡◌ {A = ℕ} 0 1 = cc in absurd (omega arith)
 tree_break Continue true true b n h = (refl, refl, refl, cc)
-tree_break Prune p t b n h = let z : ◌≡◌ {A = ℕ} 0 1 = cc in absurd (omega arith)
+tree_break Continue true false b n h = absurd cc
+tree_break Continue false t b n h = absurd cc
+tree_break Prune p t b n h = absurd cc
 tree_break (Break x) p t b n h = absurd (n x refl)
 
 tree_go : (c : Control Bool) (p t : Bool) → tree_reply c p t ≡ Continue → (p ≡ true) × (c ≡ Continue)
-tree_go Continue false t h = let z : ◌≡◌ {A = ℕ} 0 1 = cc in absurd (omega arith)
-tree_go Continue true false h = (refl, refl)
-tree_go Continue true true h = (refl, refl)
-tree_go Prune p t h = let z : ◌≡◌ {A = ℕ} 0 1 = cc in absurd (omega arith)
-tree_go (Break x) p t h = let z : ◌≡◌ {A = ℕ} 0 1 = cc in absurd (omega arith)
+tree_go Continue true t h = (refl, refl)
+tree_go Continue false t h = absurd cc
+tree_go Prune p t h = absurd cc
+tree_go (Break x) p t h = absurd cc
 
 module _ (G : Meaning) (F : ℕ → Control Bool) (n : NeverStops F) where
   reach_found : (to : ℕ) (m : Mark) (u v : ℕ) (b : Bool) → reach_reply G F to (event_of m u v) ≡ Break b → Free G F u v × (v ≡ to) × (b ≡ true)
   reach_found to New u v b h = let t = tree_break (F u) (G.permitted u v) (eqb v to) b (n u) h in ((t.0, t.1), eqb-true v to t.2, t.3)
-  reach_found to Open u v b h = let z : ◌≡◌ {A = ℕ} 0 1 = cc in absurd (omega arith)
-  reach_found to Done u v b h = let z : ◌≡◌ {A = ℕ} 0 1 = cc in absurd (omega arith)
+  reach_found to Open u v b h = absurd cc
+  reach_found to Done u v b h = absurd cc
 
   reach_seeks : (a to : ℕ) → Seeks (reach_visitor G F to) G (Free G F) a to New (λ x. Unit {0}) (λ b. b ≡ true)
   reach_seeks a to = record {
     keep = λ x e g. tt;
     at_block = λ x v t g. refl;
     at_finish = λ x v t g. refl;
-    hit = λ x u g o. (true, tells (F u) (G.permitted u to) (eqb to to) o.1 o.0 (eq-eqb to to refl));
+    hit = λ x u g o. (true, rw (o.1, o.0, eq-eqb to to refl));
     found = λ x m u v g b h. reach_found to m u v b h;
-    go = λ x u v g o d. goes (F u) (G.permitted u v) (eqb v to) o.1 o.0 (ne_eqb v to d);
+    go = λ x u v g o d. rw (o.1, o.0, ne_eqb v to d);
     may = λ x u v g h. tree_go (F u) (G.permitted u v) (eqb v to) h;
   }
-    where
-      tells : (c : Control Bool) (p t : Bool) → c ≡ Continue → p ≡ true → t ≡ true → tree_reply c p t ≡ Break true
-      tells c p t x y z = cc
-
-      goes : (c : Control Bool) (p t : Bool) → c ≡ Continue → p ≡ true → t ≡ false → tree_reply c p t ≡ Continue
-      goes c p t x y z = cc
-
-  continue? : (c : Control Bool) → Dec (c ≡ Continue)
-  continue? Continue = yes refl
-  continue? Prune = no (λ h. let z : ◌≡◌ {A = ℕ} 0 1 = cc in omega arith)
-  continue? (Break b) = no (λ h. let z : ◌≡◌ {A = ℕ} 0 1 = cc in omega arith)
 
   passing? : (a b : ℕ) → Member b (G.neighbors a) → Dec (Passing G F a b)
-  passing? a b i = by (Bool-discrete (G.permitted a b) true) (continue? (F a))
+  passing? a b i = by (G.permitted a b) refl (F a) refl
     where
-      by : Dec (G.permitted a b ≡ true) → Dec (F a ≡ Continue) → Dec (Passing G F a b)
-      by (yes p) (yes q) = yes (record { listed = i; permitted = p; passes = q })
-      by (yes p) (no q) = no (λ h. q h.passes)
-      by (no p) q = no (λ h. p h.permitted)
+      by : (p : Bool) → G.permitted a b ≡ p → (c : Control Bool) → F a ≡ c → Dec (Passing G F a b)
+      by true p Continue q = yes (record { listed = i; permitted = p; passes = q })
+      by false p c q = no (λ h. let z = h.permitted in cc)
+      by true p Prune q = no (λ h. let z = h.passes in cc)
+      by true p (Break x) q = no (λ h. let z = h.passes in cc)
 
-  nonempty : {a k b : ℕ} → Way (Passing G F) a k b → a ≢ b → (j : ℕ) × (k ≡ suc j)
+  nonempty : {a k b : ℕ} → Way (Passing G F) a k b → a ≢ b → (j : ℕ) × Way (Passing G F) a (suc j) b
   nonempty here d = absurd (d refl)
-  nonempty (on {k = j} p w) d = (j, refl)
+  nonempty (on {k = j} p w) d = (j, on p w)
 
   module _ (W : Sound G) (a b : ℕ) (l : a < G.size) where
     abbrev end : State (Unit {0}) Bool
@@ -94,8 +83,7 @@ module _ (G : Meaning) (F : ℕ → Control Bool) (n : NeverStops F) where
     other : a ≢ b → (o : Option Bool) → end.stop ≡ o → (unwrap_or o false ≡ true) ↔ ((k : ℕ) × Distance (Passing G F) a b k)
     other d None e = (
       λ h. absurd (false≢true h),
-      λ w. let j = nonempty w.1.way d in
-          absurd ((answer d).1 e (j.0, way_map (λ x y p. (p.listed, (p.permitted, p.passes))) (subst (λ n. Way (Passing G F) a n b) j.1 w.1.way))),
+      λ w. let j = nonempty w.1.way d in absurd ((answer d).1 e (j.0, way_map (λ x y p. (p.listed, (p.permitted, p.passes))) j.1)),
     )
     other d (Some c) e = (
       λ _. let h =
@@ -103,14 +91,8 @@ module _ (G : Meaning) (F : ℕ → Control Bool) (n : NeverStops F) where
       λ _. ((answer d).0 c e).0,
     )
 
-    by : (a ≡ b) ⊎ (a ≢ b) → (reachable G F a b ≡ true) ↔ ((k : ℕ) × Distance (Passing G F) a b k)
-    by (inl e) = (
-      λ _. nearest 0 (subst (λ x. Way (Passing G F) a 0 x) e here),
-      λ _. ap (λ t. cond t true (unwrap_or end.stop false)) (ap (eqb a) (sym e) ∙ eq-eqb a a refl),
-    )
-    by (inr d) =
-        subst (λ t. (cond t true (unwrap_or end.stop false) ≡ true) ↔ ((k : ℕ) × Distance (Passing G F) a b k)) (sym (ne_eqb a b d))
-        (other d end.stop refl)
-
 pub reach_law : (G : Meaning) → Sound G → (F : ℕ → Control Bool) (a b : ℕ) → a < G.size → ReachIsDistance G F a b (reachable G F a b)
-reach_law G W F a b l n = by G F n W a b l (same_or_not a b)
+reach_law G W F a b l n = elim (cases_eq a b) [
+  | inl e ↦ rw (eq-eqb a b e) (λ _. nearest G F n W a b l 0 (rw e here), λ _. refl)
+  | inr d ↦ rw (ne_eqb a b d) (other G F n W a b l d (end G F n W a b l).stop refl)
+]

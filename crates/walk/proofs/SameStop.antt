@@ -7,19 +7,15 @@ use Rattle.walk.specs.declared.event.DfsEvent.{DfsEvent}
 use Rattle.walk.specs.declared.event.DfsEvent.TheVariants.{Discover, TreeEdge, BackEdge, CrossForwardEdge, Finish}
 use Rattle.walk.specs.declared.mark.Mark.{Mark}
 use Rattle.walk.specs.declared.mark.Mark.TheVariants.{New, Open, Done}
-use Rattle.walk.specs.Walk.{Visitor, State, stop_of, report, stamp, discover, finish, close, edge, scan, opening, starts, begin, walk, if_continue, unless_ended, read_marked, start_marked}
+use Rattle.walk.specs.Walk.{Visitor, State, report, stamp, discover, finish, close, edge, scan, opening, starts, begin, walk, if_continue, unless_ended, read_marked, start_marked}
 
 module _ {S T B : Type 0} (V : Visitor S B) (U : Visitor T B) (h : S → T) (replies : (x : S) (e : DfsEvent) → U.reply (h x) e ≡ V.reply x e)
     (moves : (x : S) (e : DfsEvent) → U.next (h x) e ≡ h (V.next x e)) (G : Meaning) where
   abbrev carry : State S B → State T B
   carry s = record { mark = s.mark; time = s.time; visitor = h s.visitor; log = s.log; stop = s.stop }
 
-  abbrev reported : DfsEvent → State S B → T → Control B → State T B
-  reported e s y c = record { mark = s.mark; time = s.time; visitor = y; log = record { event = e; reply = c } ∷ s.log; stop = stop_of c }
-
   report_carry : (e : DfsEvent) (s : State S B) → report U e (carry s) ≡ carry (report V e s)
-  report_carry e s =
-      ap (λ y. reported e s y (U.reply (h s.visitor) e)) (moves s.visitor e) ∙ ap (reported e s (h (V.next s.visitor e))) (replies s.visitor e)
+  report_carry e s = rw (moves s.visitor e, replies s.visitor e)
 
   abbrev Alike : (ℕ → State S B → State S B) → (ℕ → State T B → State T B) → Type 0
   Alike go go' = (v : ℕ) (s : State S B) → go' v (carry s) ≡ carry (go v s)
@@ -36,9 +32,7 @@ module _ {S T B : Type 0} (V : Visitor S B) (U : Visitor T B) (h : S → T) (rep
         by : (o : Option B) (m : Mark)
             → unless_ended o (carry s) (read_marked U go' u v m (carry s)) ≡ carry (unless_ended o s (read_marked V go u v m s))
         by None New =
-            ap (λ c. if_continue c (report U (TreeEdge u v) (carry s)) (go' v (report U (TreeEdge u v) (carry s)))) (replies s.visitor (TreeEdge u v))
-            ∙ ap (λ t. if_continue (V.reply s.visitor (TreeEdge u v)) t (go' v t)) (report_carry (TreeEdge u v) s)
-            ∙ under (V.reply s.visitor (TreeEdge u v)) (report V (TreeEdge u v) s)
+            rw (moves s.visitor (TreeEdge u v), replies s.visitor (TreeEdge u v)) (under (V.reply s.visitor (TreeEdge u v)) (report V (TreeEdge u v) s))
         by None Open = report_carry (BackEdge u v) s
         by None Done = report_carry (CrossForwardEdge u v) s
         by (Some b) m = refl
@@ -66,10 +60,9 @@ module _ {S T B : Type 0} (V : Visitor S B) (U : Visitor T B) (h : S → T) (rep
   open_carry zero u s = refl
   open_carry (suc f) u s =
       let e = Discover u s.time in
-      ap (λ c. close U u (if_continue c (discover U u (carry s)) (scan U (opening U G f) u (G.neighbors u) (discover U u (carry s))))) (replies s.visitor e)
-      ∙ ap (λ t. close U u (if_continue (V.reply s.visitor e) t (scan U (opening U G f) u (G.neighbors u) t))) (report_carry e (stamp V u Open s))
-      ∙ ap (close U u) (inside_carry (opening V G f) (opening U G f) (open_carry f) u (V.reply s.visitor e) (discover V u s))
-      ∙ close_carry u (if_continue (V.reply s.visitor e) (discover V u s) (scan V (opening V G f) u (G.neighbors u) (discover V u s)))
+      rw (moves s.visitor e, replies s.visitor e)
+      (ap (close U u) (inside_carry (opening V G f) (opening U G f) (open_carry f) u (V.reply s.visitor e) (discover V u s))
+      ∙ close_carry u (if_continue (V.reply s.visitor e) (discover V u s) (scan V (opening V G f) u (G.neighbors u) (discover V u s))))
 
   starts_carry : (us : List ℕ) (s : State S B) → starts U G G.size us (carry s) ≡ carry (starts V G G.size us s)
   unfolding starts

@@ -1,25 +1,21 @@
 -- A search: a walk whose visitor keeps to some steps and breaks at a target. It breaks exactly when such steps lead to the target.
 use Rattle.std.proofs.Common.{◌≡◌, ℕ, zero, suc, ◌<◌, ◌≤◌, ◌≢◌, List, [], ◌∷◌, Some, None, Option, sym, refl, ap, ◌∙◌, subst, inl, inr, arith}
+use Rattle.std.proofs.lemmas.Bool.{cases_eq}
 use Rattle.graph.specs.Meaning.{Sound, Member, Meaning}
 use Rattle.walk.specs.declared.event.Control.{Control}
-use Rattle.walk.specs.declared.event.Control.TheVariants.{Continue, Prune, Break}
+use Rattle.walk.specs.declared.event.Control.TheVariants.{Continue, Break}
 use Rattle.walk.specs.declared.event.DfsEvent.{DfsEvent}
-use Rattle.walk.specs.declared.event.DfsEvent.TheVariants.{Discover, TreeEdge, BackEdge, CrossForwardEdge, Finish}
+use Rattle.walk.specs.declared.event.DfsEvent.TheVariants.{Discover, TreeEdge, Finish}
 use Rattle.walk.specs.declared.mark.Mark.{Mark}
 use Rattle.walk.specs.declared.mark.Mark.TheVariants.{New, Open, Done}
 use Rattle.walk.specs.Marks.{mark_as}
-use Rattle.walk.specs.Walk.{Visitor, State, stop_of, report, discover, finish, close, scan, opening, starts, begin, walk, if_continue, unless_ended}
+use Rattle.walk.specs.Walk.{Visitor, State, stop_of, report, stamp, discover, finish, close, scan, opening, starts, begin, walk, if_continue, unless_ended}
 use Rattle.walk.specs.Ways.{Way, here, on}
-use Rattle.walk.proofs.Cases.{open_done, is_seen, run_stop, event_of, go_break}
-use Rattle.walk.proofs.Induct.{Running, Stays, Laws, scan_law, open_law}
-use Rattle.walk.proofs.Marks.{Seen, Grow, same_or_not, mark_as_same, mark_as_other, grow_mark_as, unseen_mark_as, unseen_most}
-use Rattle.walk.proofs.Steady.{Steady, steady_refl, steady_trans, steady_grow, steady_wrap}
+use Rattle.walk.proofs.Cases.{event_of}
+use Rattle.walk.proofs.Induct.{Running, Laws, scan_law, open_law}
+use Rattle.walk.proofs.Marks.{Seen, seen_cases, mark_as_same, mark_as_other, grow_mark_as, unseen_mark_as, unseen_most}
+use Rattle.walk.proofs.Steady.{Steady, steady_refl, steady_trans, steady_wrap}
 use Rattle.walk.proofs.Ways.{snoc}
-
-abbrev IsNew : Mark → Type 0
-IsNew New = Unit {0}
-IsNew Open = ⊥
-IsNew Done = ⊥
 
 module _ {S B : Type 0} (V : Visitor S B) (G : Meaning) (ok : ℕ → ℕ → Type 0) (source to : ℕ) (m₀ : Mark) (Good : S → Type 0)
     (Right : B → Type 0) where
@@ -72,177 +68,112 @@ module _ {S B : Type 0} (V : Visitor S B) (G : Meaning) (ok : ℕ → ℕ → Ty
     known_report : (e : DfsEvent) (s : State S B) → Known s → Known (report V e s)
     known_report e s k = record { good = K.keep s.visitor e k.good; reached = k.reached; target = k.target; settled = k.settled }
 
-    settle_grow : (f g : ℕ → Mark) → Grow f g → (u v : ℕ) → Settled f u v → Settled g u v
-    settle_grow f g h u v a o = (h v (a o).0, (a o).1)
+    -- a block that is reached is marked: as done, if its list is settled
+    known_stamp : (u : ℕ) (m : Mark) (s : State S B) → Seen m → Good s.visitor → ((w : ℕ) → Seen (s.mark w) → Reached w)
+        → ((w : ℕ) → s.mark w ≡ Done → (v : ℕ) → Member v (G.neighbors w) → Settled s.mark w v) → mark_as u m s.mark to ≡ m₀ → Reached u
+        → (m ≡ Done → (v : ℕ) → Member v (G.neighbors u) → Settled s.mark u v) → Known (stamp V u m s)
+    known_stamp u m s t good reached settled target w all = record {
+      good = good;
+      reached = λ x p. elim (cases_eq x u) [ inl e ↦ rw e w | inr n ↦ reached x (rw (mark_as_other u m s.mark x n) at p) ];
+      target = target;
+      settled =
+          λ x p v i o. let a : Seen (s.mark v) × (v ≢ to) =
+          elim (cases_eq x u) [
+            | inl e ↦ all (sym (mark_as_same u m s.mark) ∙ ap (mark_as u m s.mark) (sym e) ∙ p) v (rw (← e) i) (rw (← e) o)
+            | inr n ↦ settled x (rw (mark_as_other u m s.mark x n) at p) v i o
+          ] in (grow_mark_as u m s.mark t v a.0, a.1);
+    }
 
-    settle_mark : (u : ℕ) (m : Mark) → Seen m → (f : ℕ → Mark) (x v : ℕ) → Settled f x v → Settled (mark_as u m f) x v
-    settle_mark u m t f x v a = settle_grow f (mark_as u m f) (grow_mark_as u m f t) x v a
+    -- a new block other than the target is opened
+    known_open : (u : ℕ) (s : State S B) → u ≢ to → Known s → Reached u → Known (discover V u s)
+    known_open u s d k w =
+        known_report (Discover u s.time) (stamp V u Open s)
+        (known_stamp u Open s tt k.good k.reached k.settled (mark_as_other u Open s.mark to (λ e. d (sym e)) ∙ k.target) w (λ e. absurd cc))
 
     -- the target is met marked m₀, so an edge to it ends the walk
     not_target : (u v : ℕ) (s : State S B) (m : Mark) → Known s → s.mark v ≡ m → ok u v → stop_of (V.reply s.visitor (event_of m u v)) ≡ None
         → v ≢ to
     not_target u v s m k e o r d =
-        let c = K.hit s.visitor u k.good (subst (ok u) d o) in
-        let q : m₀ ≡ m = sym k.target ∙ sym (ap s.mark d) ∙ e in
-        let said : V.reply s.visitor (event_of m u to) ≡ Break c.0 = subst (λ x. V.reply s.visitor (event_of x u to) ≡ Break c.0) q c.1 in
-        let met : V.reply s.visitor (event_of m u v) ≡ Break c.0 = subst (λ x. V.reply s.visitor (event_of m u x) ≡ Break c.0) (sym d) said in
-        run_stop (stop_of (V.reply s.visitor (event_of m u v))) c.0 r (ap stop_of met)
+        let c = K.hit s.visitor u k.good (rw (← d) o) in
+        let q : m ≡ m₀ = sym e ∙ ap s.mark d ∙ k.target in
+        let met : V.reply s.visitor (event_of m u v) ≡ Break c.0 = rw (q, d) c.1 in
+        let z = ap stop_of met in
+        cc
 
     break_of : (c : Control B) (b : B) → stop_of c ≡ Some b → c ≡ Break b
-    break_of Continue b h = absurd (run_stop None b refl h)
-    break_of Prune b h = absurd (run_stop None b refl h)
-    break_of (Break a) b h = cc
+    break_of c b h = grind arith
 
-    -- an edge event that breaks has met the target
-    broke : (m : Mark) (u v : ℕ) (s : State S B) → Known s → Member v (G.neighbors u) → Reached u → (b : B)
-        → stop_of (V.reply s.visitor (event_of m u v)) ≡ Some b → Right b × Hit
-    broke m u v s k i w b h =
-        let f = K.found s.visitor m u v k.good b (break_of (V.reply s.visitor (event_of m u v)) b h) in
-        (f.2, (w.0, subst (λ x. Way Step source (suc w.0) x) f.1 (snoc w.1 (i, f.0))))
-
-    law_tree_stay : (u v : ℕ) (s : State S B) → Running V G s → Member v (G.neighbors u) → s.mark v ≡ New
-        → Stays V G (V.reply s.visitor (TreeEdge u v)) → E u v s (report V (TreeEdge u v) s)
-    law_tree_stay u v s r i m t k o w = (
-      λ r'. (
-        known_report (TreeEdge u v) s k,
-        steady_refl s.mark,
-        λ a. absurd (subst (Stays V G) (K.go s.visitor u v k.good a (not_target u v s New k m a r')) t),
-      ),
-      broke New u v s k i w,
+    -- an edge event that opens nothing: where it breaks it has met the target
+    passed : (m : Mark) (u v : ℕ) (s : State S B) → Known s → Member v (G.neighbors u) → s.mark v ≡ m → Reached u
+        → (ok u v → v ≢ to → Seen (s.mark v))
+        → (Running V G (report V (event_of m u v) s) → Known (report V (event_of m u v) s) × Steady s.mark s.mark × Settled s.mark u v)
+        × ((b : B) → stop_of (V.reply s.visitor (event_of m u v)) ≡ Some b → Right b × Hit)
+    passed m u v s k i e w seen = (
+      λ r. (known_report (event_of m u v) s k, steady_refl s.mark, λ o. let d = not_target u v s m k e o r in (seen o d, d)),
+      λ b h.
+          let f = K.found s.visitor m u v k.good b (break_of (V.reply s.visitor (event_of m u v)) b h) in
+          (f.2, (w.0, rw (← f.1) (snoc w.1 (i, f.0)))),
     )
-
-    law_tree_go : (u v : ℕ) (s : State S B) → Running V G s → Member v (G.neighbors u) → s.mark v ≡ New
-        → V.reply s.visitor (TreeEdge u v) ≡ Continue → (s' : State S B) → P v (report V (TreeEdge u v) s) s' → E u v s s'
-    law_tree_go u v s r i m c s' p k o w =
-        let a = K.may s.visitor u v k.good c in
-        let d = not_target u v s New k m a (ap stop_of c) in
-        let x = p d (known_report (TreeEdge u v) s k) (suc w.0, snoc w.1 (i, a)) in
-        (λ r'. let y = x.0 r' in (y.0, y.1, λ _. (is_seen (s'.mark v) Done tt y.2, d)), x.1)
-
-    law_back : (u v : ℕ) (s : State S B) → Running V G s → Member v (G.neighbors u) → s.mark v ≡ Open → E u v s (report V (BackEdge u v) s)
-    law_back u v s r i m k o w = (
-      λ r'. (known_report (BackEdge u v) s k, steady_refl s.mark, λ a. (is_seen (s.mark v) Open tt m, not_target u v s Open k m a r')),
-      broke Open u v s k i w,
-    )
-
-    law_cross : (u v : ℕ) (s : State S B) → Running V G s → Member v (G.neighbors u) → s.mark v ≡ Done → E u v s (report V (CrossForwardEdge u v) s)
-    law_cross u v s r i m k o w = (
-      λ r'. (known_report (CrossForwardEdge u v) s k, steady_refl s.mark, λ a. (is_seen (s.mark v) Done tt m, not_target u v s Done k m a r')),
-      broke Done u v s k i w,
-    )
-
-    law_nil : (u : ℕ) (s : State S B) → Running V G s → Q u [] s s
-    law_nil u s r k o w = (λ _. (k, steady_refl s.mark, λ v i. absurd i), λ b h. absurd (run_stop s.stop b r h))
-
-    law_cons : (u v : ℕ) (vs : List ℕ) (s s₁ s₂ : State S B) → Running V G s → E u v s s₁ → Running V G s₁ → Q u vs s₁ s₂ → Q u (v ∷ vs) s s₂
-    law_cons u v vs s s₁ s₂ r e r₁ q k o w =
-        let a = (e k o w).0 r₁ in
-        let x = q a.0 ((a.1 u).0 (is_seen (s.mark u) Open tt o) ∙ o) w in
-        (λ r₂. let y = x.0 r₂ in (y.0, steady_trans s.mark s₁.mark s₂.mark a.1 y.1, both a y), x.1)
-      where
-        both : Known s₁ × Steady s.mark s₁.mark × Settled s₁.mark u v
-            → Known s₂ × Steady s₁.mark s₂.mark × ((x : ℕ) → Member x vs → Settled s₂.mark u x) → (x : ℕ) → Member x (v ∷ vs)
-            → Settled s₂.mark u x
-        both a y x (inl d) =
-            subst (Settled s₂.mark u) (sym d) (settle_grow s₁.mark s₂.mark (steady_grow s₁.mark s₂.mark y.1) u v a.2)
-        both a y x (inr i) = y.2 x i
-
-    law_halt : (u v : ℕ) (vs : List ℕ) (s s₁ : State S B) → Running V G s → E u v s s₁ → (b : B) → s₁.stop ≡ Some b → Q u (v ∷ vs) s s₁
-    law_halt u v vs s s₁ r e b h k o w = (λ r₁. absurd (run_stop s₁.stop b r₁ h), (e k o w).1)
-
-    -- a new block other than the target is opened
-    known_open : (u : ℕ) (s : State S B) → u ≢ to → Known s → Reached u → Known (discover V u s)
-    known_open u s d k w = record {
-      good = K.keep s.visitor (Discover u s.time) k.good;
-      reached =
-          λ x t.
-          elim (same_or_not x u) [ inl e ↦ subst Reached (sym e) w | inr n ↦ k.reached x (subst Seen (mark_as_other u Open s.mark x n) t) ];
-      target = mark_as_other u Open s.mark to (λ e. d (sym e)) ∙ k.target;
-      settled =
-          λ x e v i.
-          elim (same_or_not x u) [
-            | inl h ↦ absurd (open_done (mark_as u Open s.mark x) (ap (mark_as u Open s.mark) h ∙ mark_as_same u Open s.mark) e)
-            | inr n ↦ settle_mark u Open tt s.mark x v (k.settled x (sym (mark_as_other u Open s.mark x n) ∙ e) v i)
-          ];
-    }
-
-    known_close : (u : ℕ) (s : State S B) → u ≢ to → Known s → Reached u → ((v : ℕ) → Member v (G.neighbors u) → Settled s.mark u v)
-        → Known (finish V u s)
-    known_close u s d k w a = record {
-      good = K.keep s.visitor (Finish u s.time) k.good;
-      reached =
-          λ x t.
-          elim (same_or_not x u) [ inl e ↦ subst Reached (sym e) w | inr n ↦ k.reached x (subst Seen (mark_as_other u Done s.mark x n) t) ];
-      target = mark_as_other u Done s.mark to (λ e. d (sym e)) ∙ k.target;
-      settled =
-          λ x e v i.
-          elim (same_or_not x u) [
-            | inl h ↦ settle_mark u Done tt s.mark x v (subst (λ y. Settled s.mark y v) (sym h) (a v (subst (λ y. Member v (G.neighbors y)) h i)))
-            | inr n ↦ settle_mark u Done tt s.mark x v (k.settled x (sym (mark_as_other u Done s.mark x n) ∙ e) v i)
-          ];
-    }
-
-    law_open_halt : (u : ℕ) (s : State S B) → Running V G s → s.mark u ≡ New → u < G.size → (b : B)
-        → V.reply s.visitor (Discover u s.time) ≡ Break b → P u s (discover V u s)
-    law_open_halt u s r m l b e d k w = absurd (go_break _ b (K.at_block s.visitor u s.time k.good) e)
-
-    law_open_prune : (u : ℕ) (s : State S B) → Running V G s → s.mark u ≡ New → u < G.size → V.reply s.visitor (Discover u s.time) ≡ Prune
-        → P u s (finish V u (discover V u s))
-    law_open_prune u s r m l e d k w = let g = K.at_block s.visitor u s.time k.good in let z : ◌≡◌ {A = ℕ} 0 1 = cc in absurd (omega arith)
-
-    law_open_stop : (u : ℕ) (s : State S B) → Running V G s → s.mark u ≡ New → u < G.size → V.reply s.visitor (Discover u s.time) ≡ Continue
-        → (s' : State S B) → Q u (G.neighbors u) (discover V u s) s' → (b : B) → s'.stop ≡ Some b → P u s s'
-    law_open_stop u s r m l e s' q b h d k w =
-        (λ r'. absurd (run_stop s'.stop b r' h), (q (known_open u s d k w) (mark_as_same u Open s.mark) w).1)
-
-    law_open_go : (u : ℕ) (s : State S B) → Running V G s → s.mark u ≡ New → u < G.size → V.reply s.visitor (Discover u s.time) ≡ Continue
-        → (s' : State S B) → Q u (G.neighbors u) (discover V u s) s' → Running V G s' → P u s (finish V u s')
-    law_open_go u s r m l e s' q r' d k w =
-        let y = (q (known_open u s d k w) (mark_as_same u Open s.mark) w).0 r' in (
-          λ _. (known_close u s' d y.0 w y.2, steady_wrap u s.mark s'.mark m y.1, mark_as_same u Done s'.mark),
-          λ b h. absurd (run_stop _ b (ap stop_of (K.at_finish s'.visitor u s'.time y.0.good)) h),
-        )
 
     pub laws : Laws V G P E Q
-    laws =
-        record {
-          open_halt = law_open_halt;
-          open_prune = law_open_prune;
-          open_stop = law_open_stop;
-          open_go = law_open_go;
-          tree_stay = law_tree_stay;
-          tree_go = law_tree_go;
-          back = law_back;
-          cross = law_cross;
-          nil = law_nil;
-          cons = law_cons;
-          halt = law_halt;
-        }
+    laws = record {
+      open_halt = λ u s r m l b e d k w. absurd (let z = K.at_block s.visitor u s.time k.good in cc);
+      open_prune = λ u s r m l e d k w. absurd (let z = K.at_block s.visitor u s.time k.good in cc);
+      open_stop = λ u s r m l e s' q b h d k w. (λ r'. absurd cc, (q (known_open u s d k w) (mark_as_same u Open s.mark) w).1);
+      open_go =
+          λ u s r m l e s' q r' d k w. let y =
+          (q (known_open u s d k w) (mark_as_same u Open s.mark) w).0 r' in (
+            λ _. (
+              known_report (Finish u s'.time) (stamp V u Done s')
+                  (known_stamp u Done s' tt y.0.good y.0.reached y.0.settled (mark_as_other u Done s'.mark to (λ z. d (sym z)) ∙ y.0.target) w (λ _. y.2)),
+              steady_wrap u s.mark s'.mark m y.1,
+              mark_as_same u Done s'.mark,
+            ),
+            λ b h. absurd (let z = ap stop_of (K.at_finish s'.visitor u s'.time y.0.good) in cc),
+          );
+      tree_stay = λ u v s r i m t k o w. passed New u v s k i m w (λ a d. absurd (rw (K.go s.visitor u v k.good a d) at t));
+      tree_go =
+          λ u v s r i m c s' p k o w. let a =
+          K.may s.visitor u v k.good c in
+          let d = not_target u v s New k m a (ap stop_of c) in
+          let x = p d (known_report (TreeEdge u v) s k) (suc w.0, snoc w.1 (i, a)) in
+          (λ r'. let y = x.0 r' in (y.0, y.1, λ _. (rw y.2 tt, d)), x.1);
+      back = λ u v s r i m k o w. passed Open u v s k i m w (λ a d. rw m tt);
+      cross = λ u v s r i m k o w. passed Done u v s k i m w (λ a d. rw m tt);
+      nil = λ u s r k o w. (λ _. (k, steady_refl s.mark, λ v i. absurd i), λ b h. absurd cc);
+      cons =
+          λ u v vs s s₁ s₂ r e r₁ q k o w. let a =
+          (e k o w).0 r₁ in
+          let x = q a.0 ((a.1 u).0 (rw o tt) ∙ o) w in (
+            λ r₂. let y =
+                x.0 r₂ in (
+                  y.0,
+                  steady_trans s.mark s₁.mark s₂.mark a.1 y.1,
+                  λ z j.
+                      elim j [ inl d ↦ rw d (λ c. let h = a.2 c in (rw ((y.1 v).0 h.0) h.0, h.1)) | inr n ↦ y.2 z n ],
+                ),
+            x.1,
+          );
+      halt = λ u v vs s s₁ r e b h k o w. (λ r₁. absurd cc, (e k o w).1);
+    }
 
     -- everything seen leads only to what is seen and is not the target
-    stuck : (f : ℕ → Mark) → ((x : ℕ) → Seen (f x) → (v : ℕ) → Member v (G.neighbors x) → Settled f x v) → {x k z : ℕ} → Way Step x k z → Seen (f x)
-        → x ≢ to → z ≢ to
-    stuck f a here t d = d
-    stuck f a (on {u = x} {v = y} e w) t d = let h = a x t y e.0 e.1 in stuck f a w h.0 h.1
-
     no_hit : (f : ℕ → Mark) → ((x : ℕ) → Seen (f x) → (v : ℕ) → Member v (G.neighbors x) → Settled f x v) → {x k z : ℕ} → Way Step x (suc k) z
         → Seen (f x) → z ≢ to
-    no_hit f a (on {u = x} {v = y} e w) t = let h = a x t y e.0 e.1 in stuck f a w h.0 h.1
+    no_hit f a (on {u = x} {v = y} e here) t = (a x t y e.0 e.1).1
+    no_hit f a (on {u = x} {v = y} e (on e' w)) t = no_hit f a (on e' w) (a x t y e.0 e.1).0
 
     -- what is seen when the list of the source has been read: the source, open, and what is done
     all_settled : (s : State S B) → Known s → Steady (mark_as source Open (λ w. New)) s.mark
         → ((v : ℕ) → Member v (G.neighbors source) → Settled s.mark source v) → (x : ℕ) → Seen (s.mark x) → (v : ℕ) → Member v (G.neighbors x)
         → Settled s.mark x v
-    all_settled s k r q x t v i = by (s.mark x) refl t
-      where
-        by : (m : Mark) → s.mark x ≡ m → Seen m → Settled s.mark x v
-        by New e t' = absurd t'
-        by Open e t' =
-            elim (same_or_not x source) [
-              | inl d ↦ subst (λ y. Settled s.mark y v) (sym d) (q v (subst (λ y. Member v (G.neighbors y)) d i))
-              | inr d ↦ absurd ((r x).1 (mark_as_other source Open (λ w. New) x d) e)
-            ]
-        by Done e t' = k.settled x e v i
+    all_settled s k r q x t v i = elim (seen_cases (s.mark x) t) [
+      | inl e ↦ elim (cases_eq x source) [
+        | inl d ↦ rw d (q v (rw (← d) i))
+        | inr d ↦ absurd ((r x).1 (mark_as_other source Open (λ w. New) x d) e)
+      ]
+      | inr e ↦ k.settled x e v i
+    ]
 
     abbrev pub Answer : State S B → Type 0
     Answer s = ((b : B) → s.stop ≡ Some b → Right b × Hit) × (s.stop ≡ None → Hit → ⊥)
@@ -268,22 +199,9 @@ module _ {S B : Type 0} (V : Visitor S B) (G : Meaning) (ok : ℕ → ℕ → Ty
             (scan_law V G P E Q laws W f (opening V G f) (open_law V G P E Q laws W f) source (G.neighbors source) s₁ (ap stop_of c) (λ x i. i) (omega arith)).0
 
         known : Known s₁
-        known = record {
-          good = K.keep v (Discover source 0) g;
-          reached =
-              λ x t.
-              elim (same_or_not x source) [
-                | inl d ↦ subst Reached (sym d) (0, here)
-                | inr d ↦ absurd (subst Seen (mark_as_other source Open (λ w. New) x d) t)
-              ];
-          target = e;
-          settled =
-              λ x d y i.
-              elim (same_or_not x source) [
-                | inl a ↦ absurd (open_done (mark_as source Open (λ w. New) x) (ap (mark_as source Open (λ w. New)) a ∙ mark_as_same source Open (λ w. New)) d)
-                | inr a ↦ absurd (subst IsNew (sym (mark_as_other source Open (λ w. New) x a) ∙ d) tt)
-              ];
-        }
+        known =
+            known_report (Discover source 0) (stamp V source Open (begin V v))
+            (known_stamp source Open (begin V v) tt g (λ w t. absurd t) (λ w d. absurd cc) e (0, here) (λ d. absurd cc))
 
         both : (Running V G s₂ → Known s₂ × Steady s₁.mark s₂.mark × ((x : ℕ) → Member x (G.neighbors source) → Settled s₂.mark source x))
             × ((b : B) → s₂.stop ≡ Some b → Right b × Hit)
@@ -292,12 +210,12 @@ module _ {S B : Type 0} (V : Visitor S B) (G : Meaning) (ok : ℕ → ℕ → Ty
         shut : (o : Option B) → s₂.stop ≡ o → Answer (unless_ended o s₂ (finish V source s₂))
         shut None z =
             let y = both.0 z in (
-              λ b h. absurd (run_stop _ b (ap stop_of (K.at_finish s₂.visitor source s₂.time y.0.good)) h),
+              λ b h. absurd (let n = ap stop_of (K.at_finish s₂.visitor source s₂.time y.0.good) in cc),
               λ _ w.
                   no_hit s₂.mark (all_settled s₂ y.0 y.1 y.2) w.1
-                  (is_seen (s₂.mark source) Open tt ((y.1 source).0 (is_seen _ Open tt (mark_as_same source Open (λ w. New))) ∙ mark_as_same source Open (λ w. New))) refl,
+                  (rw ((y.1 source).0 (rw (mark_as_same source Open (λ w. New)) tt), mark_as_same source Open (λ w. New)) tt) refl,
             )
-        shut (Some b) z = (both.1, λ r. absurd (run_stop s₂.stop b r z))
+        shut (Some b) z = (both.1, λ r. absurd cc)
 
     pub seek : Sound G → (v : S) → Good v → source < G.size → mark_as source Open (λ w. New) to ≡ m₀ → Answer (walk V G (source ∷ []) v)
     unfolding starts
