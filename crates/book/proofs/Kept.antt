@@ -37,7 +37,7 @@ four_fates (g ∷ gs) =
       count_cons is_unfiled g gs,
       count_cons is_waiting g gs,
       count_cons is_drawn g gs,
-      count_cons is_untargeted g gs
+      count_cons is_untargeted g gs,
     )
 
 pub law_new : (text : List ℕ) → Law (new_book text) new_ledger
@@ -164,7 +164,7 @@ law_edge_taken a b e k l h = record {
         arith,
         h.jumps_once x,
         sum_by_push (λ (y : ℕ). cond (eqb x y) 1 0) l.taken (length k.blocks.graph.edges),
-        jump_at_push k.blocks.graph.edges (record { source = a; target = b; kind = e }) x
+        jump_at_push k.blocks.graph.edges (record { source = a; target = b; kind = e }) x,
       );
 }
 

@@ -81,7 +81,7 @@ counted p w d u pw pd pu c i x _ _ _ (miss _ g gs hs es f e r) =
       pw i,
       count_cons p g' hs,
       count_entry is_some c g es None e,
-      count_entry (λ o. not (is_some o)) c g es None e
+      count_entry (λ o. not (is_some o)) c g es None e,
     )
 counted p w d u pw pd pu c i x _ _ _ (draw _ t g gs hs es f e r) =
     let g' : Given = record { kind = g.kind; block = g.block; fate = Drawn x t } in
@@ -93,7 +93,7 @@ counted p w d u pw pd pu c i x _ _ _ (draw _ t g gs hs es f e r) =
       pd x t,
       count_cons p g' hs,
       count_entry is_some c g es (Some t) e,
-      count_entry (λ o. not (is_some o)) c g es (Some t) e
+      count_entry (λ o. not (is_some o)) c g es (Some t) e,
     )
 
 -- each edge that is drawn is new
@@ -110,7 +110,7 @@ jumps_drawn c i x _ _ _ (miss _ g gs hs es f e r) p n y =
       jumps_drawn c i x gs hs es r p n y,
       count_at (drawn_as y) g (Waiting i) gs f,
       count_cons (drawn_as y) g' hs,
-      ap (λ o. jump_at (entries_drawn c es (jump_added g.block o p)).edges y) e
+      ap (λ o. jump_at (entries_drawn c es (jump_added g.block o p)).edges y) e,
     )
 jumps_drawn c i x _ _ _ (draw _ t g gs hs es f e r) p n y =
     let new : Edge = record { source = g.block; target = t; kind = edge.Jump } in
@@ -121,7 +121,7 @@ jumps_drawn c i x _ _ _ (draw _ t g gs hs es f e r) p n y =
       count_at (drawn_as y) g (Waiting i) gs f,
       count_cons (drawn_as y) g' hs,
       ap (λ o. jump_at (entries_drawn c es (jump_added g.block o p)).edges y) e,
-      jump_at_push p.edges new y ∙ ap (λ m. jump_at p.edges y + cond (eqb y m) 1 0) n
+      jump_at_push p.edges new y ∙ ap (λ m. jump_at p.edges y + cond (eqb y m) 1 0) n,
     )
 
 -- each edge that is drawn stands, and the others still do

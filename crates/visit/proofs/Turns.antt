@@ -15,7 +15,7 @@ use Rattle.walk.specs.OpenBlocks.{OpenBlock, unwind}
 use Rattle.walk.specs.Replies.{flow_of}
 use Rattle.walk.specs.Walk.{Visitor, State, stop_of, report, stamp, discover, finish}
 use Rattle.walk.proofs.Bytes.{holds_set}
-use Rattle.walk.proofs.Cases.{event_of, new_seen}
+use Rattle.walk.proofs.Cases.{event_of}
 use Rattle.walk.proofs.Induct.{Stays}
 use Rattle.walk.proofs.Marks.{Seen, grow_mark_as, unseen_grow, unseen_mark_as}
 use Rattle.walk.proofs.Turns.{unwind_ended, turn_close, turn_edge, turn_enter, turn_open, after_discover}
@@ -157,7 +157,7 @@ module _ {S B : Type 0} (V : Visitor S B) (G : Meaning) {end : State S B} where
     pub read_seen : Seen m → {r : ControlFlow B Bool} → r ≡ flow_of c
         → GoesOn V G marks t v' (record { block = u; rest = ws } ∷ fs) end (break_value r)
     read_seen seen =
-        let passed : stop_of c ≡ None → Stands V G marks t v' (record { block = u; rest = ws } ∷ fs) end = read_on (λ n. absurd (new_seen m n seen)) in
+        let passed : stop_of c ≡ None → Stands V G marks t v' (record { block = u; rest = ws } ∷ fs) end = read_on (λ n. absurd (subst Seen n seen)) in
         by_reply (λ r. GoesOn V G marks t v' (record { block = u; rest = ws } ∷ fs) end (break_value r)) c (λ i. passed (ap stop_of i)) (λ i. passed (ap stop_of i)) read_over
 
   read_enter : {marks : List ℕ} {t : ℕ} {v v' : S} {u w : ℕ} {ws : List ℕ} {fs : List OpenBlock} {c : Control B} → w < G.size

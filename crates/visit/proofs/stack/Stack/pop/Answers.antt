@@ -1,5 +1,5 @@
 -- The top is the last slot in use.
-use Rattle.std.proofs.Common.{◌≡◌, ◌+◌, ◌-◌, ap, ◌∙◌, arith}
+use Rattle.std.proofs.Common.{◌≡◌, ◌+◌, ap, ◌∙◌, arith}
 use Rattle.visit.specs.Held.{held}
 use Rattle.visit.proofs.Holding.{held_top}
 use Rattle.visit.proofs.stack.Stack.pop.Goals as goal
