@@ -1,5 +1,5 @@
 -- Each call keeps the law of the counts, so each list of calls does.
-use Rattle.std.proofs.Common.{◌≡◌, ℕ, ◌+◌, ◌≤◌, true, false, cond, eqb, List, [], ◌∷◌, ◌++◌, length, Some, None, Option, sym, refl, ap, ◌∙◌, subst, inl, inr, arith, rules}
+use Rattle.std.proofs.Common.{◌≡◌, ℕ, ◌+◌, ◌≤◌, true, false, cond, eqb, List, [], ◌∷◌, ◌++◌, length, Some, None, Option, sym, refl, ap, ◌∙◌, subst, inl, inr, arith}
 use Rattle.std.proofs.lemmas.List.{append-nil, length_push}
 use Rattle.std.proofs.lemmas.List.Sums.{sum_by_push}
 use Rattle.std.proofs.lemmas.Bool.{cases_eq, eq-eqb, ne_eqb}
@@ -8,7 +8,7 @@ use Rattle.block_builder.specs.BlockState.{BlockState}
 use Rattle.book.specs.Book as book
 use Rattle.book.specs.Book.{Book, new_book, with_blocks, with_contexts, context_for, filed, targeted, allowed, resolved_by, refusal, done, step, run}
 use Rattle.book.specs.LawOfCounts.{entries_at, EdgeStands, EdgesStand, Law}
-use Rattle.book.specs.Ledger.{Fate, first_fate, Unfiled, Waiting, Given, Ledger, is_unfiled, is_waiting, is_drawn, is_untargeted, drawn_as, count_fate, waits_in, waiting_in, given_now, resolved_in, top_resolved, edge_taken, recorded, ledger_step, ledger_run, new_ledger}
+use Rattle.book.specs.Ledger.{first_fate, Given, Ledger, is_unfiled, is_waiting, is_drawn, is_untargeted, drawn_as, count_fate, waits_in, waiting_in, given_now, resolved_in, top_resolved, edge_taken, recorded, ledger_step, ledger_run, new_ledger}
 use Rattle.book.specs.declared.call.Call.{Call}
 use Rattle.book.specs.declared.call.Call.TheVariants as call
 use Rattle.contexts.specs.Contexts.{Context, Entry, with_target, with_flag, opened, top_number, top_continue, upper_label, resolve_counts, waiting_count}
@@ -24,20 +24,16 @@ use Rattle.book.proofs.Entries.{Within, found_within, top_within, entries_kept, 
 use Rattle.book.proofs.Resolving.{Resolves, resolves, count_cons, length_resolved, counted, jumps_drawn, edges_drawn, none_waits, others_wait}
 
 -- every one has one of the four fates
-one_fate : (f : Fate) → cond (is_unfiled f) 1 0 + cond (is_waiting f) 1 0 + cond (is_drawn f) 1 0 + cond (is_untargeted f) 1 0 ≡ 1
-one_fate f = search rules
-
-pub four_fates : (gs : List Given) → length gs ≡ count_fate is_unfiled gs + count_fate is_waiting gs + count_fate is_drawn gs + count_fate is_untargeted gs
+four_fates : (gs : List Given) → length gs ≡ count_fate is_unfiled gs + count_fate is_waiting gs + count_fate is_drawn gs + count_fate is_untargeted gs
 four_fates [] = refl
 four_fates (g ∷ gs) =
-    omega (
+    grind (
       arith,
       four_fates gs,
-      one_fate g.fate,
       count_cons is_unfiled g gs,
       count_cons is_waiting g gs,
       count_cons is_drawn g gs,
-      count_cons is_untargeted g gs
+      count_cons is_untargeted g gs,
     )
 
 pub law_new : (text : List ℕ) → Law (new_book text) new_ledger
@@ -89,16 +85,11 @@ law_contexts k l cs e w h = record {
 -- no entries past the open contexts
 entries_past : (cs : List Context) (i : ℕ) → length cs ≤ i → entries_at i cs ≡ []
 entries_past [] i p = refl
-entries_past (x ∷ cs) i p = rw (ne_eqb i (length cs) (λ z. omega arith)) (entries_past cs i (omega arith))
+entries_past (x ∷ cs) i p = grind (arith, ne_eqb i (length cs) (λ z. omega arith), entries_past cs i (omega arith))
 
 law_opened : (k : Book) (l : Ledger) (c : Context) → c.entries ≡ [] → Law k l → Law (with_contexts (c ∷ k.contexts) k) l
-law_opened k l c e h = law_contexts k l (c ∷ k.contexts) same (rw e (omega arith)) h
-  where
-    same : (i : ℕ) → entries_at i (c ∷ k.contexts) ≡ entries_at i k.contexts
-    same i = elim (cases_eq i (length k.contexts)) [
-      | inl p ↦ rw (eq-eqb i (length k.contexts) p) (e ∙ sym (entries_past k.contexts i (omega arith)))
-      | inr p ↦ rw (ne_eqb i (length k.contexts) p)
-    ]
+law_opened k l c e h =
+    law_contexts k l (c ∷ k.contexts) (λ i. grind (arith, entries_past k.contexts i)) (rw e (omega arith)) h
 
 -- a break or continue given
 edges_push : (es : List Edge) (gs : List Given) (g : Given) → EdgesStand es gs → EdgeStands es g.block g.fate → EdgesStand es (gs ++ g ∷ [])
@@ -164,7 +155,7 @@ law_edge_taken a b e k l h = record {
         arith,
         h.jumps_once x,
         sum_by_push (λ (y : ℕ). cond (eqb x y) 1 0) l.taken (length k.blocks.graph.edges),
-        jump_at_push k.blocks.graph.edges (record { source = a; target = b; kind = e }) x
+        jump_at_push k.blocks.graph.edges (record { source = a; target = b; kind = e }) x,
       );
 }
 

@@ -6,7 +6,7 @@ use Rattle.std.proofs.lemmas.Bool.{ne_eqb, eqb-true}
 use Rattle.std.specs.List.{slice_get}
 use Rattle.blocks.specs.Blocks.{GraphState, edge_added}
 use Rattle.book.specs.LawOfCounts.{jump_at, EdgesStand}
-use Rattle.book.specs.Ledger.{Fate, Unfiled, Waiting, Drawn, Untargeted, Given, waits_in, drawn_as, count_fate, waiting_in, resolved_fate, next_edge, resolved_in}
+use Rattle.book.specs.Ledger.{Fate, Waiting, Drawn, Untargeted, Given, waits_in, drawn_as, count_fate, waiting_in, resolved_fate, next_edge, resolved_in}
 use Rattle.contexts.specs.Contexts.{Context, Entry, target_of, jump_added, entries_drawn, has_target}
 use Rattle.kinds.specs.declared.edge.Edge.{Edge}
 use Rattle.kinds.specs.declared.edge.EdgeType.TheVariants as edge
@@ -24,10 +24,7 @@ pub data Resolves (c : Context) (i : ℕ) : ℕ → List Given → List Given �
       Resolves c i x (g ∷ gs) (record { kind = g.kind; block = g.block; fate = Drawn x t } ∷ hs) (entry_of g.kind g.block ∷ es)
 
 waits : (i : ℕ) (f : Fate) → waits_in i f ≡ true → f ≡ Waiting i
-waits i Unfiled h = cc
-waits i (Waiting j) h = ap Waiting (sym (eqb-true i j h))
-waits i (Drawn x t) h = cc
-waits i Untargeted h = cc
+waits i f h = grind (arith, eqb-true)
 
 pub resolves : (c : Context) (i x : ℕ) (gs : List Given) → Resolves c i x gs (resolved_in c i x gs) (waiting_in i gs)
 resolves c i x [] = none x
@@ -48,9 +45,6 @@ resolves c i x (g ∷ gs) = by (λ z. resolves c i z gs) (waits_in i g.fate) ref
 
 pub count_cons : (p : Fate → Bool) (g : Given) (gs : List Given) → count_fate p (g ∷ gs) ≡ cond (p g.fate) 1 0 + count_fate p gs
 count_cons p g gs = sum_by-cons (λ (x : Given). cond (p x.fate) 1 0) g gs
-
-count_at : (p : Fate → Bool) (g : Given) (f : Fate) (gs : List Given) → g.fate ≡ f → count_fate p (g ∷ gs) ≡ cond (p f) 1 0 + count_fate p gs
-count_at p g f gs e = count_cons p g gs ∙ ap (λ z. cond (p z) 1 0 + count_fate p gs) e
 
 count_entry : (q : Option ℕ → Bool) (c : Context) (g : Given) (es : List Entry) (o : Option ℕ) → target_of g.kind c ≡ o
     → count_by (λ (e : Entry). q (target_of e.kind c)) (entry_of g.kind g.block ∷ es)
@@ -77,23 +71,23 @@ counted p w d u pw pd pu c i x _ _ _ (miss _ g gs hs es f e r) =
     grind (
       arith,
       counted p w d u pw pd pu c i x gs hs es r,
-      count_at p g (Waiting i) gs f,
+      count_cons p g gs,
       pw i,
       count_cons p g' hs,
       count_entry is_some c g es None e,
-      count_entry (λ o. not (is_some o)) c g es None e
+      count_entry (λ o. not (is_some o)) c g es None e,
     )
 counted p w d u pw pd pu c i x _ _ _ (draw _ t g gs hs es f e r) =
     let g' : Given = record { kind = g.kind; block = g.block; fate = Drawn x t } in
     grind (
       arith,
       counted p w d u pw pd pu c i (suc x) gs hs es r,
-      count_at p g (Waiting i) gs f,
+      count_cons p g gs,
       pw i,
       pd x t,
       count_cons p g' hs,
       count_entry is_some c g es (Some t) e,
-      count_entry (λ o. not (is_some o)) c g es (Some t) e
+      count_entry (λ o. not (is_some o)) c g es (Some t) e,
     )
 
 -- each edge that is drawn is new
@@ -105,23 +99,23 @@ jumps_drawn c i x _ _ _ (skip _ g gs hs es w r) p n y =
     omega (arith, jumps_drawn c i x gs hs es r p n y, count_cons (drawn_as y) g gs, count_cons (drawn_as y) g hs)
 jumps_drawn c i x _ _ _ (miss _ g gs hs es f e r) p n y =
     let g' : Given = record { kind = g.kind; block = g.block; fate = Untargeted } in
-    omega (
+    grind (
       arith,
       jumps_drawn c i x gs hs es r p n y,
-      count_at (drawn_as y) g (Waiting i) gs f,
+      count_cons (drawn_as y) g gs,
       count_cons (drawn_as y) g' hs,
-      ap (λ o. jump_at (entries_drawn c es (jump_added g.block o p)).edges y) e
+      ap (λ o. jump_at (entries_drawn c es (jump_added g.block o p)).edges y) e,
     )
 jumps_drawn c i x _ _ _ (draw _ t g gs hs es f e r) p n y =
     let new : Edge = record { source = g.block; target = t; kind = edge.Jump } in
     let h = jumps_drawn c i (suc x) gs hs es r (edge_added g.block t edge.Jump p) (omega (arith, length_push p.edges new)) y in
     let g' : Given = record { kind = g.kind; block = g.block; fate = Drawn x t } in
-    omega (
+    grind (
       arith,
-      count_at (drawn_as y) g (Waiting i) gs f,
+      count_cons (drawn_as y) g gs,
       count_cons (drawn_as y) g' hs,
       ap (λ o. jump_at (entries_drawn c es (jump_added g.block o p)).edges y) e,
-      jump_at_push p.edges new y ∙ ap (λ m. jump_at p.edges y + cond (eqb y m) 1 0) n
+      jump_at_push p.edges new y ∙ ap (λ m. jump_at p.edges y + cond (eqb y m) 1 0) n,
     )
 
 -- each edge that is drawn stands, and the others still do
@@ -157,14 +151,10 @@ none_waits c i x _ _ _ (skip _ g gs hs es w r) = rw w (none_waits c i x gs hs es
 none_waits c i x _ _ _ (miss _ g gs hs es f e r) = none_waits c i x gs hs es r
 none_waits c i x _ _ _ (draw _ t g gs hs es f e r) = none_waits c i (suc x) gs hs es r
 
-unmoved : (i j : ℕ) (g : Given) (gs : List Given) → (j ≡ i → ⊥) → g.fate ≡ Waiting i → waiting_in j (g ∷ gs) ≡ waiting_in j gs
-unmoved i j g gs q f = ap (λ z. cond (waits_in j z) (entry_of g.kind g.block ∷ waiting_in j gs) (waiting_in j gs)) f
-    ∙ ap (λ z. cond z (entry_of g.kind g.block ∷ waiting_in j gs) (waiting_in j gs)) (ne_eqb j i q)
-
 pub others_wait : (c : Context) (i x : ℕ) (gs hs : List Given) (es : List Entry) → Resolves c i x gs hs es → (j : ℕ) → (j ≡ i → ⊥)
     → waiting_in j hs ≡ waiting_in j gs
 others_wait c i x _ _ _ (none _) j q = refl
 others_wait c i x _ _ _ (skip _ g gs hs es w r) j q =
     ap (λ z. cond (waits_in j g.fate) (entry_of g.kind g.block ∷ z) z) (others_wait c i x gs hs es r j q)
-others_wait c i x _ _ _ (miss _ g gs hs es f e r) j q = others_wait c i x gs hs es r j q ∙ sym (unmoved i j g gs q f)
-others_wait c i x _ _ _ (draw _ t g gs hs es f e r) j q = others_wait c i (suc x) gs hs es r j q ∙ sym (unmoved i j g gs q f)
+others_wait c i x _ _ _ (miss _ g gs hs es f e r) j q = grind (arith, others_wait c i x gs hs es r j q, ne_eqb j i q)
+others_wait c i x _ _ _ (draw _ t g gs hs es f e r) j q = grind (arith, others_wait c i (suc x) gs hs es r j q, ne_eqb j i q)
