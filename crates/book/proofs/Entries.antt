@@ -1,12 +1,12 @@
 -- Which entries an open context has after each change of the contexts, and which wait in the ledger.
-use Rattle.std.proofs.Common.{◌≡◌, ℕ, suc, ◌+◌, ◌<◌, Bool, true, false, cond, ◌&&◌, eqb, List, [], ◌∷◌, ◌++◌, length, Some, None, Option, sym, refl, ◌∙◌, inl, inr, arith, rules}
+use Rattle.std.proofs.Common.{◌≡◌, ℕ, ◌+◌, ◌<◌, Bool, cond, eqb, List, [], ◌∷◌, ◌++◌, length, Some, None, Option, refl, inl, inr, arith, rules}
 use Rattle.std.proofs.lemmas.List.{append-nil, length_push}
 use Rattle.std.proofs.lemmas.List.Sums.{sum_by_push}
 use Rattle.std.proofs.lemmas.Bool.{cases_eq, eq-eqb, ne_eqb}
 use Rattle.book.specs.Book.{continue_given}
 use Rattle.book.specs.LawOfCounts.{entries_at}
 use Rattle.book.specs.Ledger.{Fate, Given, waits_in, count_fate, waiting_in}
-use Rattle.contexts.specs.Contexts.{Context, Entry, found, has_flag, label_matches, with_target, with_entry, changed_at, top_number, waiting_count}
+use Rattle.contexts.specs.Contexts.{Context, Entry, found, with_target, with_entry, changed_at, top_number, waiting_count}
 use Rattle.kinds.specs.declared.context.EntryKind.{EntryKind}
 use Rattle.kinds.specs.declared.context.EntryKind.TheVariants as entry
 use Rattle.kinds.specs.declared.context.Label.{Label}
@@ -20,20 +20,9 @@ abbrev pub Within : Option ℕ → ℕ → Type 0
 Within None n = Unit {0}
 Within (Some i) n = i < n
 
-within_more : (o : Option ℕ) (n : ℕ) → Within o n → Within o (suc n)
-within_more None n h = tt
-within_more (Some i) n h = omega arith
-
 pub found_within : (text : List ℕ) (j : EntryKind) (l : Option Label) (cs : List Context) → Within (found text j l cs) (length cs)
 found_within text j l [] = tt
-found_within text j l (c ∷ cs) =
-    elim c.flags.function as
-    (λ t. Within (cond t None (cond (has_flag j c.flags && label_matches text l c.label) (Some (length cs)) (found text j l cs))) (suc (length cs))) [
-      | true ↦ tt
-      | false ↦ elim (has_flag j c.flags && label_matches text l c.label) as
-          (λ t. Within (cond t (Some (length cs)) (found text j l cs)) (suc (length cs)))
-          [ true ↦ omega arith | false ↦ within_more (found text j l cs) (length cs) (found_within text j l cs) ]
-    ]
+found_within text j l (c ∷ cs) = grind (arith, found_within text j l cs)
 
 pub top_within : (cs : List Context) → Within (top_number cs) (length cs)
 top_within [] = tt
@@ -70,19 +59,16 @@ entry_of j b = record { kind = j; block = b }
 pub entries_filed : (j : EntryKind) (b m : ℕ) (cs : List Context) → m < length cs → (i : ℕ)
     → entries_at i (changed_at (with_entry j b) m cs) ≡ entries_at i cs ++ cond (eqb i m) (entry_of j b ∷ []) []
 entries_filed j b m [] l i = absurd (omega arith)
-entries_filed j b m (c ∷ cs) l i =
-    elim (cases_eq m (length cs)) [
-      | inl p ↦ rw (eq-eqb m (length cs) p) (
-          elim (cases_eq i (length cs)) [
-            | inl q ↦ rw (eq-eqb i (length cs) q, eq-eqb i m (q ∙ sym p))
-            | inr q ↦ rw (ne_eqb i (length cs) q, ne_eqb i m (λ z. q (z ∙ p))) (sym (append-nil (entries_at i cs)))
-          ])
-      | inr p ↦ rw (ne_eqb m (length cs) p, length_changed (with_entry j b) m cs) (
-          elim (cases_eq i (length cs)) [
-            | inl q ↦ rw (eq-eqb i (length cs) q, ne_eqb i m (λ z. p (sym z ∙ q))) (sym (append-nil c.entries))
-            | inr q ↦ rw (ne_eqb i (length cs) q) (entries_filed j b m cs (omega (arith, p)) i)
-          ])
-    ]
+entries_filed j b m (c ∷ cs) l i = elim (cases_eq m (length cs)) [
+  | inl p ↦ grind (arith, append-nil (entries_at i cs), eq-eqb m (length cs) p)
+  | inr p ↦ grind (
+    arith,
+    length_changed (with_entry j b) m cs,
+    append-nil c.entries,
+    ne_eqb m (length cs) p,
+    entries_filed j b m cs (omega (arith, p)) i,
+  )
+]
 
 pub count_filed : (j : EntryKind) (b m : ℕ) (cs : List Context) → m < length cs → waiting_count (changed_at (with_entry j b) m cs) ≡ waiting_count cs + 1
 count_filed j b m [] l = absurd (omega arith)

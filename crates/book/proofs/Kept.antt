@@ -1,5 +1,5 @@
 -- Each call keeps the law of the counts, so each list of calls does.
-use Rattle.std.proofs.Common.{◌≡◌, ℕ, ◌+◌, ◌≤◌, true, false, cond, eqb, List, [], ◌∷◌, ◌++◌, length, Some, None, Option, sym, refl, ap, ◌∙◌, subst, inl, inr, arith, rules}
+use Rattle.std.proofs.Common.{count_by, nat_eq, ◌≡◌, ℕ, ◌+◌, ◌≤◌, true, false, cond, eqb, List, [], ◌∷◌, ◌++◌, length, Some, None, Option, sym, refl, ap, ◌∙◌, subst, inl, inr, arith}
 use Rattle.std.proofs.lemmas.List.{append-nil, length_push}
 use Rattle.std.proofs.lemmas.List.Sums.{sum_by_push}
 use Rattle.std.proofs.lemmas.Bool.{cases_eq, eq-eqb, ne_eqb}
@@ -7,8 +7,8 @@ use Rattle.block_builder.specs.BlockState as state
 use Rattle.block_builder.specs.BlockState.{BlockState}
 use Rattle.book.specs.Book as book
 use Rattle.book.specs.Book.{Book, new_book, with_blocks, with_contexts, context_for, filed, targeted, allowed, resolved_by, refusal, done, step, run}
-use Rattle.book.specs.LawOfCounts.{entries_at, EdgeStands, EdgesStand, Law}
-use Rattle.book.specs.Ledger.{Fate, first_fate, Unfiled, Waiting, Given, Ledger, is_unfiled, is_waiting, is_drawn, is_untargeted, drawn_as, count_fate, waits_in, waiting_in, given_now, resolved_in, top_resolved, edge_taken, recorded, ledger_step, ledger_run, new_ledger}
+use Rattle.book.specs.LawOfCounts.{jump_at, entries_at, EdgeStands, EdgesStand, Law}
+use Rattle.book.specs.Ledger.{first_fate, Given, Ledger, is_unfiled, is_waiting, is_drawn, is_untargeted, drawn_as, count_fate, waits_in, waiting_in, given_now, resolved_in, top_resolved, edge_taken, recorded, ledger_step, ledger_run, new_ledger}
 use Rattle.book.specs.declared.call.Call.{Call}
 use Rattle.book.specs.declared.call.Call.TheVariants as call
 use Rattle.contexts.specs.Contexts.{Context, Entry, with_target, with_flag, opened, top_number, top_continue, upper_label, resolve_counts, waiting_count}
@@ -19,21 +19,17 @@ use Rattle.kinds.specs.declared.context.EntryKind.{EntryKind}
 use Rattle.kinds.specs.declared.edge.Edge.{Edge}
 use Rattle.kinds.specs.declared.edge.EdgeType.{EdgeType}
 use Rattle.kinds.specs.declared.refusal.Refusal.{Refusal}
-use Rattle.book.proofs.Edges.{jump_at_push, jump_at_one, edge_at_more, edges_stay, NoJumps, no_jumps_same, no_jumps_normal, no_jumps_unreachable, no_jumps_terminator}
+use Rattle.book.proofs.Edges.{Stay, jump_at_push, jump_at_one, edge_at_more, edges_stay, NoJumps, no_jumps_same, no_jumps_normal, no_jumps_unreachable, no_jumps_terminator}
 use Rattle.book.proofs.Entries.{Within, found_within, top_within, entries_kept, count_kept, target_entries, given_entries, given_count, entries_filed, count_filed, waiting_in_push, count_push, entry_of}
 use Rattle.book.proofs.Resolving.{Resolves, resolves, count_cons, length_resolved, counted, jumps_drawn, edges_drawn, none_waits, others_wait}
 
 -- every one has one of the four fates
-one_fate : (f : Fate) → cond (is_unfiled f) 1 0 + cond (is_waiting f) 1 0 + cond (is_drawn f) 1 0 + cond (is_untargeted f) 1 0 ≡ 1
-one_fate f = search rules
-
-pub four_fates : (gs : List Given) → length gs ≡ count_fate is_unfiled gs + count_fate is_waiting gs + count_fate is_drawn gs + count_fate is_untargeted gs
+four_fates : (gs : List Given) → length gs ≡ count_fate is_unfiled gs + count_fate is_waiting gs + count_fate is_drawn gs + count_fate is_untargeted gs
 four_fates [] = refl
 four_fates (g ∷ gs) =
-    omega (
+    grind (
       arith,
       four_fates gs,
-      one_fate g.fate,
       count_cons is_unfiled g gs,
       count_cons is_waiting g gs,
       count_cons is_drawn g gs,
@@ -54,9 +50,11 @@ law_new text = record {
   jumps_once = λ x. refl;
 }
 
--- a call that changes the draft alone
-law_blocks : (k : Book) (l : Ledger) (d : BlockState) → NoJumps k.blocks.graph.edges d.graph.edges → Law k l → Law (with_blocks d k) l
-law_blocks k l d q h = record {
+-- a call that changes the draft alone, and what add_edge took
+law_graph : (k : Book) (l : Ledger) (d : BlockState) (taken : List ℕ) → Stay k.blocks.graph.edges d.graph.edges
+    → ((x : ℕ) → jump_at d.graph.edges x + count_by (nat_eq x) l.taken ≡ jump_at k.blocks.graph.edges x + count_by (nat_eq x) taken) → Law k l
+    → Law (with_blocks d k) (record { given = l.given; taken = taken })
+law_graph k l d taken s n h = record {
   given = h.given;
   unfiled = h.unfiled;
   waiting = h.waiting;
@@ -64,9 +62,12 @@ law_blocks k l d q h = record {
   untargeted = h.untargeted;
   total = h.total;
   entries = h.entries;
-  edges_stand = edges_stay k.blocks.graph.edges d.graph.edges l.given q.stay h.edges_stand;
-  jumps_once = λ x. h.jumps_once x ∙ sym (q.jumps x);
+  edges_stand = edges_stay k.blocks.graph.edges d.graph.edges l.given s h.edges_stand;
+  jumps_once = λ x. omega (arith, h.jumps_once x, n x);
 }
+
+law_blocks : (k : Book) (l : Ledger) (d : BlockState) → NoJumps k.blocks.graph.edges d.graph.edges → Law k l → Law (with_blocks d k) l
+law_blocks k l d q h = law_graph k l d l.taken q.stay (λ x. omega (arith, q.jumps x)) h
 
 law_same_edges : (k : Book) (l : Ledger) (d : BlockState) → d.graph.edges ≡ k.blocks.graph.edges → Law k l → Law (with_blocks d k) l
 law_same_edges k l d e h = law_blocks k l d (subst (NoJumps k.blocks.graph.edges) (sym e) (no_jumps_same k.blocks.graph.edges)) h
@@ -89,16 +90,11 @@ law_contexts k l cs e w h = record {
 -- no entries past the open contexts
 entries_past : (cs : List Context) (i : ℕ) → length cs ≤ i → entries_at i cs ≡ []
 entries_past [] i p = refl
-entries_past (x ∷ cs) i p = rw (ne_eqb i (length cs) (λ z. omega arith)) (entries_past cs i (omega arith))
+entries_past (x ∷ cs) i p = grind (arith, ne_eqb i (length cs) (λ z. omega arith), entries_past cs i (omega arith))
 
 law_opened : (k : Book) (l : Ledger) (c : Context) → c.entries ≡ [] → Law k l → Law (with_contexts (c ∷ k.contexts) k) l
-law_opened k l c e h = law_contexts k l (c ∷ k.contexts) same (rw e (omega arith)) h
-  where
-    same : (i : ℕ) → entries_at i (c ∷ k.contexts) ≡ entries_at i k.contexts
-    same i = elim (cases_eq i (length k.contexts)) [
-      | inl p ↦ rw (eq-eqb i (length k.contexts) p) (e ∙ sym (entries_past k.contexts i (omega arith)))
-      | inr p ↦ rw (ne_eqb i (length k.contexts) p)
-    ]
+law_opened k l c e h =
+    law_contexts k l (c ∷ k.contexts) (λ i. grind (arith, entries_past k.contexts i)) (rw e (omega arith)) h
 
 -- a break or continue given
 edges_push : (es : List Edge) (gs : List Given) (g : Given) → EdgesStand es gs → EdgeStands es g.block g.fate → EdgesStand es (gs ++ g ∷ [])
@@ -149,24 +145,16 @@ law_allowed j (Some i) k l h =
 -- add_edge
 law_edge_taken : (a b : ℕ) (e : EdgeType) (k : Book) (l : Ledger) → Law k l
     → Law (with_blocks (state.linked a b e k.blocks) k) (edge_taken e (length k.blocks.graph.edges) l)
-law_edge_taken a b e k l h = record {
-  given = h.given;
-  unfiled = h.unfiled;
-  waiting = h.waiting;
-  drawn = h.drawn;
-  untargeted = h.untargeted;
-  total = h.total;
-  entries = h.entries;
-  edges_stand = edges_stay k.blocks.graph.edges _ l.given (λ x f z. edge_at_more k.blocks.graph.edges _ x f z) h.edges_stand;
-  jumps_once =
-      λ x.
-      grind (
-        arith,
-        h.jumps_once x,
-        sum_by_push (λ (y : ℕ). cond (eqb x y) 1 0) l.taken (length k.blocks.graph.edges),
-        jump_at_push k.blocks.graph.edges (record { source = a; target = b; kind = e }) x,
-      );
-}
+law_edge_taken a b e k l h =
+    law_graph k l (state.linked a b e k.blocks) (edge_taken e (length k.blocks.graph.edges) l).taken
+    (λ x f z. edge_at_more k.blocks.graph.edges _ x f z) (
+    λ x.
+    grind (
+      arith,
+      sum_by_push (λ (y : ℕ). cond (eqb x y) 1 0) l.taken (length k.blocks.graph.edges),
+      jump_at_push k.blocks.graph.edges (record { source = a; target = b; kind = e }) x,
+    )
+    ) h
 
 -- resolve
 law_resolved : (cs : List Context) (k : Book) (l : Ledger) → k.contexts ≡ cs → Law k l
@@ -181,11 +169,11 @@ law_resolved (c ∷ cs) k l e h =
     let own : c.entries ≡ waiting_in i gs = ap (λ z. cond z c.entries (entries_at i cs)) (sym (eq-eqb i i refl)) ∙ at i in
     let P : List Entry → Type 0 = λ z. Resolves c i x gs hs z in
     let r : Resolves c i x gs hs c.entries = subst P (sym own) (resolves c i x gs) in
-    let n = length_resolved c i x gs hs c.entries r in
-    let a = counted is_unfiled false false false (λ y. refl) (λ y z. refl) refl c i x gs hs c.entries r in
-    let b = counted is_waiting true false false (λ y. refl) (λ y z. refl) refl c i x gs hs c.entries r in
-    let d = counted is_drawn false true false (λ y. refl) (λ y z. refl) refl c i x gs hs c.entries r in
-    let u = counted is_untargeted false false true (λ y. refl) (λ y z. refl) refl c i x gs hs c.entries r in
+    let n = length_resolved c i r in
+    let a = counted c i is_unfiled false false false (λ y. refl) (λ y z. refl) refl r in
+    let b = counted c i is_waiting true false false (λ y. refl) (λ y z. refl) refl r in
+    let d = counted c i is_drawn false true false (λ y. refl) (λ y z. refl) refl r in
+    let u = counted c i is_untargeted false false true (λ y. refl) (λ y z. refl) refl r in
     let w : waiting_count k.contexts ≡ length c.entries + waiting_count cs = ap waiting_count e in
     let f = four_fates hs in
     record {
@@ -196,11 +184,11 @@ law_resolved (c ∷ cs) k l e h =
       untargeted = omega arith;
       total = omega arith;
       entries = λ j. elim (cases_eq j i) [
-        | inl z ↦ (let past : length cs ≤ j = omega arith in entries_past cs j past ∙ sym (ap (λ m. waiting_in m hs) z ∙ none_waits c i x gs hs c.entries r))
-        | inr z ↦ ap (λ m. cond m c.entries (entries_at j cs)) (sym (ne_eqb j i z)) ∙ at j ∙ sym (others_wait c i x gs hs c.entries r j z)
+        | inl z ↦ (let past : length cs ≤ j = omega arith in entries_past cs j past ∙ sym (ap (λ m. waiting_in m hs) z ∙ none_waits c i r))
+        | inr z ↦ ap (λ m. cond m c.entries (entries_at j cs)) (sym (ne_eqb j i z)) ∙ at j ∙ sym (others_wait c i r j z)
       ];
-      edges_stand = edges_drawn c i x gs hs c.entries r k.blocks.graph refl h.edges_stand;
-      jumps_once = λ m. omega (arith, jumps_drawn c i x gs hs c.entries r k.blocks.graph refl m, h.jumps_once m);
+      edges_stand = edges_drawn c i r k.blocks.graph refl h.edges_stand;
+      jumps_once = λ m. omega (arith, jumps_drawn c i r k.blocks.graph refl m, h.jumps_once m);
     }
 
 law_upper : (k : Book) (l : Ledger) → Law k l → Law (book.resolved_upper k) (top_resolved k.contexts (length k.blocks.graph.edges) l)
