@@ -1,13 +1,12 @@
 -- Two visitors that reply alike have the same walk: their states correspond by h.
-use Rattle.std.proofs.Common.{◌≡◌, ℕ, zero, suc, List, [], ◌∷◌, Some, None, Option, refl, ap, ◌∙◌}
+use Rattle.std.proofs.Common.{arith, ◌≡◌, ℕ, zero, suc, List, [], ◌∷◌, Some, None, Option, refl, ap, ◌∙◌}
 use Rattle.graph.specs.Meaning.{Meaning}
 use Rattle.walk.specs.declared.event.Control.{Control}
-use Rattle.walk.specs.declared.event.Control.TheVariants.{Continue, Prune, Break}
 use Rattle.walk.specs.declared.event.DfsEvent.{DfsEvent}
 use Rattle.walk.specs.declared.event.DfsEvent.TheVariants.{Discover, TreeEdge, BackEdge, CrossForwardEdge, Finish}
 use Rattle.walk.specs.declared.mark.Mark.{Mark}
 use Rattle.walk.specs.declared.mark.Mark.TheVariants.{New, Open, Done}
-use Rattle.walk.specs.Walk.{Visitor, State, report, stamp, discover, finish, close, edge, scan, opening, starts, begin, walk, if_continue, unless_ended, read_marked, start_marked}
+use Rattle.walk.specs.Walk.{Visitor, State, report, stamp, discover, close, edge, scan, opening, starts, begin, walk, if_continue, unless_ended, read_marked, start_marked}
 
 module _ {S T B : Type 0} (V : Visitor S B) (U : Visitor T B) (h : S → T) (replies : (x : S) (e : DfsEvent) → U.reply (h x) e ≡ V.reply x e)
     (moves : (x : S) (e : DfsEvent) → U.next (h x) e ≡ h (V.next x e)) (G : Meaning) where
@@ -25,9 +24,7 @@ module _ {S T B : Type 0} (V : Visitor S B) (U : Visitor T B) (h : S → T) (rep
     edge_carry u v s = by s.stop (s.mark v)
       where
         under : (c : Control B) (t : State S B) → if_continue c (carry t) (go' v (carry t)) ≡ carry (if_continue c t (go v t))
-        under Continue t = alike v t
-        under Prune t = refl
-        under (Break b) t = refl
+        under c t = grind (arith, alike v t)
 
         by : (o : Option B) (m : Mark)
             → unless_ended o (carry s) (read_marked U go' u v m (carry s)) ≡ carry (unless_ended o s (read_marked V go u v m s))
@@ -44,16 +41,10 @@ module _ {S T B : Type 0} (V : Visitor S B) (U : Visitor T B) (h : S → T) (rep
 
     inside_carry : (u : ℕ) (c : Control B) (s : State S B)
         → if_continue c (carry s) (scan U go' u (G.neighbors u) (carry s)) ≡ carry (if_continue c s (scan V go u (G.neighbors u) s))
-    inside_carry u Continue s = scan_carry u (G.neighbors u) s
-    inside_carry u Prune s = refl
-    inside_carry u (Break b) s = refl
+    inside_carry u c s = grind (arith, scan_carry u (G.neighbors u) s)
 
   close_carry : (u : ℕ) (s : State S B) → close U u (carry s) ≡ carry (close V u s)
-  close_carry u s = by s.stop
-    where
-      by : (o : Option B) → unless_ended o (carry s) (finish U u (carry s)) ≡ carry (unless_ended o s (finish V u s))
-      by None = report_carry (Finish u s.time) (stamp V u Done s)
-      by (Some b) = refl
+  close_carry u s = grind (arith, report_carry (Finish u s.time) (stamp V u Done s))
 
   open_carry : (f : ℕ) → Alike (opening V G f) (opening U G f)
   unfolding opening
