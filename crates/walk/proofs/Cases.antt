@@ -1,13 +1,12 @@
 -- The event that reports an edge, and a case that is none.
-use Rattle.std.proofs.Common.{ℕ, ◌⊎◌, inl, inr}
+use Rattle.std.proofs.Common.{ℕ, ◌⊎◌, arith}
 use Rattle.walk.specs.declared.event.DfsEvent.{DfsEvent}
 use Rattle.walk.specs.declared.event.DfsEvent.TheVariants.{TreeEdge, BackEdge, CrossForwardEdge}
 use Rattle.walk.specs.declared.mark.Mark.{Mark}
 use Rattle.walk.specs.declared.mark.Mark.TheVariants.{New, Open, Done}
 
 pub not_left : {A C : Type 0} → (A → ⊥) → A ⊎ C → C
-not_left f (inl a) = absurd (f a)
-not_left f (inr c) = c
+not_left f h = grind arith
 
 -- the event that reports an edge to a block so marked
 abbrev pub event_of : Mark → ℕ → ℕ → DfsEvent

@@ -1,22 +1,15 @@
 -- The law of cycles.
-use Rattle.std.proofs.Common.{◌≡◌, ℕ, ◌<◌, cond, [], ◌∷◌, is_some, Some, None, Option, refl, ap, arith, eq-eqb, ne_eqb}
+use Rattle.std.proofs.Common.{◌≡◌, ℕ, ◌<◌, cond, [], ◌∷◌, is_some, Some, None, Option, refl, ap, arith, eq-eqb, eqb-true}
 use Rattle.std.proofs.lemmas.Bool.{false≢true}
 use Rattle.graph.specs.Meaning.{Sound, Meaning}
 use Rattle.walk.specs.declared.event.Control.TheVariants.{Continue, Break}
-use Rattle.walk.specs.declared.mark.Mark.{Mark}
-use Rattle.walk.specs.declared.mark.Mark.TheVariants.{New, Open, Done}
-use Rattle.walk.specs.Cycle.{cycle_reply, cycle_visitor, cyclic}
+use Rattle.walk.specs.declared.mark.Mark.TheVariants.{New, Open}
+use Rattle.walk.specs.Cycle.{cycle_visitor, cyclic}
 use Rattle.walk.specs.CycleIsWayBack.{CycleIsWayBack}
 use Rattle.walk.specs.Walk.{State, walk}
-use Rattle.walk.proofs.Cases.{event_of}
 use Rattle.walk.proofs.Marks.{mark_as_same}
 use Rattle.walk.proofs.Seek.{Seeks, seek, Answer}
 use Rattle.walk.proofs.Ways.{way_map}
-
-cycle_found : (u : ℕ) (m : Mark) (a v : ℕ) (b : Unit {0}) → cycle_reply u (event_of m a v) ≡ Break b → Unit {0} × (v ≡ u) × Unit {0}
-cycle_found u New a v b h = absurd cc
-cycle_found u Open a v b h = (tt, grind (arith, ne_eqb), tt)
-cycle_found u Done a v b h = absurd cc
 
 cycle_seeks : (G : Meaning) (u : ℕ) → Seeks (cycle_visitor u) G (λ a b. Unit {0}) u u Open (λ x. Unit {0}) (λ b. Unit {0})
 cycle_seeks G u = record {
@@ -24,7 +17,7 @@ cycle_seeks G u = record {
   at_block = λ x v t g. refl;
   at_finish = λ x v t g. refl;
   hit = λ x a g o. (tt, ap (λ c. cond c (Break tt) Continue) (eq-eqb u u refl));
-  found = λ x m a v g b h. cycle_found u m a v b h;
+  found = λ x m a v g b h. grind (arith, eqb-true v u);
   go = λ x a v g o d. refl;
   may = λ x a v g h. tt;
 }

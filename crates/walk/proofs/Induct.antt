@@ -68,17 +68,7 @@ module _ {S B : Type 0} (V : Visitor S B) (G : Meaning) where
   -- a neighbour that is not opened is reported
   pub edge_passed : (go : ℕ → State S B → State S B) (u v : ℕ) (m : Mark) (s : State S B) → Running s → s.mark v ≡ m
       → (m ≡ New → Stays (V.reply s.visitor (TreeEdge u v))) → edge V go u v s ≡ report V (event_of m u v) s
-  edge_passed go u v m s r e t = edge_marked go u v m s r e ∙ by m t
-    where
-      stay : {A : Type 0} (c : Control B) (a b : A) → Stays c → if_continue c a b ≡ a
-      stay Continue a b h = absurd h
-      stay Prune a b h = refl
-      stay (Break x) a b h = refl
-
-      by : (m : Mark) → (m ≡ New → Stays (V.reply s.visitor (TreeEdge u v))) → read_marked V go u v m s ≡ report V (event_of m u v) s
-      by New h = stay (V.reply s.visitor (TreeEdge u v)) _ _ (h refl)
-      by Open h = refl
-      by Done h = refl
+  edge_passed go u v m s r e t = edge_marked go u v m s r e ∙ grind arith
 
   module _ (P : ℕ → State S B → State S B → Type 0) (E : ℕ → ℕ → State S B → State S B → Type 0) (Q : ℕ → List ℕ → State S B → State S B → Type 0)
       (L : Laws P E Q) (W : Sound G) where

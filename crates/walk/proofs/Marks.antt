@@ -1,5 +1,5 @@
 -- Marks: one block marked, what grows, and how many blocks are still new.
-use Rattle.std.proofs.Common.{◌≡◌, ℕ, zero, suc, ◌<◌, ◌≤◌, ◌≢◌, ◌⊎◌, refl, inl, inr, arith, rules, eq-eqb, ne_eqb}
+use Rattle.std.proofs.Common.{◌≡◌, ℕ, zero, suc, ◌<◌, ◌≤◌, ◌≢◌, ◌⊎◌, inl, inr, arith, rules, eq-eqb, ne_eqb}
 use Rattle.std.proofs.lemmas.Bool.{cases_eq}
 use Rattle.walk.specs.declared.mark.Mark.{Mark}
 use Rattle.walk.specs.declared.mark.Mark.TheVariants.{New, Open, Done}
@@ -14,9 +14,7 @@ abbrev pub Grow : (ℕ → Mark) → (ℕ → Mark) → Type 0
 Grow f g = (w : ℕ) → Seen (f w) → Seen (g w)
 
 pub seen_cases : (m : Mark) → Seen m → (m ≡ Open) ⊎ (m ≡ Done)
-seen_cases New t = absurd t
-seen_cases Open t = inl refl
-seen_cases Done t = inr refl
+seen_cases m t = grind arith
 
 pub mark_as_same : (u : ℕ) (m : Mark) (f : ℕ → Mark) → mark_as u m f u ≡ m
 mark_as_same u m f = search rules

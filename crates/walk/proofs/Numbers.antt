@@ -70,9 +70,10 @@ module _ {S B : Type 0} (V : Visitor S B) (G : Meaning) where
 
   keep_edge : (m : Mark) (u v : ℕ) (s : State S B) → Even s (report V (event_of m u v) s)
   unfolding found numbers shuts shut_by
-  keep_edge New u v s = record { kept = λ k. record { listed = k.listed; timed = k.timed; once = k.once }; even = λ _. refl }
-  keep_edge Open u v s = record { kept = λ k. record { listed = k.listed; timed = k.timed; once = k.once }; even = λ _. refl }
-  keep_edge Done u v s = record { kept = λ k. record { listed = k.listed; timed = k.timed; once = k.once }; even = λ _. refl }
+  keep_edge m u v s = record {
+    kept = λ k. record { listed = grind (arith, k.listed); timed = grind (arith, k.timed); once = λ w. grind (arith, k.once w) };
+    even = λ _. grind arith;
+  }
 
   keep_open : (u : ℕ) (s : State S B) → s.mark u ≡ New → Kept s → Kept (discover V u s)
   unfolding found numbers shuts shut_by down

@@ -1,16 +1,14 @@
 -- The law of reach.
-use Rattle.std.proofs.Common.{◌≡◌, ℕ, suc, ◌<◌, Bool, true, false, eqb, ◌≢◌, ◌↔◌, [], ◌∷◌, Some, None, Option, unwrap_or, sym, refl, inl, inr, eq-eqb, ne_eqb, eqb-true}
+use Rattle.std.proofs.Common.{arith, ◌≡◌, ℕ, suc, ◌<◌, Bool, true, false, ◌≢◌, ◌↔◌, [], ◌∷◌, Some, None, Option, unwrap_or, sym, refl, inl, inr, eq-eqb, ne_eqb, eqb-true}
 use Rattle.std.proofs.lemmas.Bool.{cases_eq, false≢true}
 use Rattle.graph.specs.Meaning.{Sound, Member, Meaning}
 use Rattle.walk.specs.declared.event.Control.{Control}
 use Rattle.walk.specs.declared.event.Control.TheVariants.{Continue, Prune, Break}
-use Rattle.walk.specs.declared.mark.Mark.{Mark}
-use Rattle.walk.specs.declared.mark.Mark.TheVariants.{New, Open, Done}
-use Rattle.walk.specs.Reach.{reach_reply, reach_visitor, reachable, Passing, NeverStops, step_reply}
+use Rattle.walk.specs.declared.mark.Mark.TheVariants.{New, Open}
+use Rattle.walk.specs.Reach.{reach_visitor, reachable, Passing, NeverStops}
 use Rattle.walk.specs.ReachIsDistance.{ReachIsDistance}
-use Rattle.walk.specs.Walk.{State, walk, if_continue}
+use Rattle.walk.specs.Walk.{State, walk}
 use Rattle.walk.specs.Ways.{Way, here, on, Distance}
-use Rattle.walk.proofs.Cases.{event_of}
 use Rattle.walk.proofs.Least.{distance}
 use Rattle.walk.proofs.Marks.{mark_as_other}
 use Rattle.walk.proofs.Seek.{Seeks, seek, Answer}
@@ -20,39 +18,16 @@ use Rattle.walk.proofs.Ways.{way_map}
 abbrev Free : Meaning → (ℕ → Control Bool) → ℕ → ℕ → Type 0
 Free G F u v = (G.permitted u v ≡ true) × (F u ≡ Continue)
 
--- the reply at a TreeEdge, by what the filter says and how the step stands
-abbrev tree_reply : Control Bool → Bool → Bool → Control Bool
-tree_reply c p t = if_continue c c (step_reply p t)
-
-tree_break : (c : Control Bool) (p t b : Bool) → ((x : Bool) → c ≡ Break x → ⊥) → tree_reply c p t ≡ Break b
-    → (p ≡ true) × (c ≡ Continue) × (t ≡ true) × (b ≡ true)
-tree_break Continue true true b n h = (refl, refl, refl, cc)
-tree_break Continue true false b n h = absurd cc
-tree_break Continue false t b n h = absurd cc
-tree_break Prune p t b n h = absurd cc
-tree_break (Break x) p t b n h = absurd (n x refl)
-
-tree_go : (c : Control Bool) (p t : Bool) → tree_reply c p t ≡ Continue → (p ≡ true) × (c ≡ Continue)
-tree_go Continue true t h = (refl, refl)
-tree_go Continue false t h = absurd cc
-tree_go Prune p t h = absurd cc
-tree_go (Break x) p t h = absurd cc
-
 module _ (G : Meaning) (F : ℕ → Control Bool) (n : NeverStops F) where
-  reach_found : (to : ℕ) (m : Mark) (u v : ℕ) (b : Bool) → reach_reply G F to (event_of m u v) ≡ Break b → Free G F u v × (v ≡ to) × (b ≡ true)
-  reach_found to New u v b h = let t = tree_break (F u) (G.permitted u v) (eqb v to) b (n u) h in ((t.0, t.1), eqb-true v to t.2, t.3)
-  reach_found to Open u v b h = absurd cc
-  reach_found to Done u v b h = absurd cc
-
   reach_seeks : (a to : ℕ) → Seeks (reach_visitor G F to) G (Free G F) a to New (λ x. Unit {0}) (λ b. b ≡ true)
   reach_seeks a to = record {
     keep = λ x e g. tt;
     at_block = λ x v t g. refl;
     at_finish = λ x v t g. refl;
     hit = λ x u g o. (true, rw (o.1, o.0, eq-eqb to to refl));
-    found = λ x m u v g b h. reach_found to m u v b h;
+    found = λ x m u v g b h. grind (arith, n u b, eqb-true v to);
     go = λ x u v g o d. rw (o.1, o.0, ne_eqb v to d);
-    may = λ x u v g h. tree_go (F u) (G.permitted u v) (eqb v to) h;
+    may = λ x u v g h. grind arith;
   }
 
   passing? : (a b : ℕ) → Member b (G.neighbors a) → Dec (Passing G F a b)

@@ -1,13 +1,11 @@
 -- Two visitors that reply alike have the same walk: their states correspond by h.
-use Rattle.std.proofs.Common.{◌≡◌, ℕ, zero, suc, List, [], ◌∷◌, Some, None, Option, refl, ap, ◌∙◌}
+use Rattle.std.proofs.Common.{arith, ◌≡◌, ℕ, zero, suc, List, [], ◌∷◌, refl, ap, ◌∙◌}
 use Rattle.graph.specs.Meaning.{Meaning}
 use Rattle.walk.specs.declared.event.Control.{Control}
-use Rattle.walk.specs.declared.event.Control.TheVariants.{Continue, Prune, Break}
 use Rattle.walk.specs.declared.event.DfsEvent.{DfsEvent}
 use Rattle.walk.specs.declared.event.DfsEvent.TheVariants.{Discover, TreeEdge, BackEdge, CrossForwardEdge, Finish}
-use Rattle.walk.specs.declared.mark.Mark.{Mark}
-use Rattle.walk.specs.declared.mark.Mark.TheVariants.{New, Open, Done}
-use Rattle.walk.specs.Walk.{Visitor, State, report, stamp, discover, finish, close, edge, scan, opening, starts, begin, walk, if_continue, unless_ended, read_marked, start_marked}
+use Rattle.walk.specs.declared.mark.Mark.TheVariants.{Done}
+use Rattle.walk.specs.Walk.{Visitor, State, report, stamp, discover, close, edge, scan, opening, starts, begin, walk, if_continue, unless_ended, start_marked}
 
 module _ {S T B : Type 0} (V : Visitor S B) (U : Visitor T B) (h : S → T) (replies : (x : S) (e : DfsEvent) → U.reply (h x) e ≡ V.reply x e)
     (moves : (x : S) (e : DfsEvent) → U.next (h x) e ≡ h (V.next x e)) (G : Meaning) where
@@ -22,20 +20,15 @@ module _ {S T B : Type 0} (V : Visitor S B) (U : Visitor T B) (h : S → T) (rep
 
   module _ (go : ℕ → State S B → State S B) (go' : ℕ → State T B → State T B) (alike : Alike go go') where
     edge_carry : (u v : ℕ) (s : State S B) → edge U go' u v (carry s) ≡ carry (edge V go u v s)
-    edge_carry u v s = by s.stop (s.mark v)
-      where
-        under : (c : Control B) (t : State S B) → if_continue c (carry t) (go' v (carry t)) ≡ carry (if_continue c t (go v t))
-        under Continue t = alike v t
-        under Prune t = refl
-        under (Break b) t = refl
-
-        by : (o : Option B) (m : Mark)
-            → unless_ended o (carry s) (read_marked U go' u v m (carry s)) ≡ carry (unless_ended o s (read_marked V go u v m s))
-        by None New =
-            rw (moves s.visitor (TreeEdge u v), replies s.visitor (TreeEdge u v)) (under (V.reply s.visitor (TreeEdge u v)) (report V (TreeEdge u v) s))
-        by None Open = report_carry (BackEdge u v) s
-        by None Done = report_carry (CrossForwardEdge u v) s
-        by (Some b) m = refl
+    edge_carry u v s =
+        grind (
+          arith,
+          report_carry (TreeEdge u v) s,
+          report_carry (BackEdge u v) s,
+          report_carry (CrossForwardEdge u v) s,
+          replies s.visitor (TreeEdge u v),
+          alike v (report V (TreeEdge u v) s),
+        )
 
     scan_carry : (u : ℕ) (vs : List ℕ) (s : State S B) → scan U go' u vs (carry s) ≡ carry (scan V go u vs s)
     unfolding scan
@@ -44,16 +37,10 @@ module _ {S T B : Type 0} (V : Visitor S B) (U : Visitor T B) (h : S → T) (rep
 
     inside_carry : (u : ℕ) (c : Control B) (s : State S B)
         → if_continue c (carry s) (scan U go' u (G.neighbors u) (carry s)) ≡ carry (if_continue c s (scan V go u (G.neighbors u) s))
-    inside_carry u Continue s = scan_carry u (G.neighbors u) s
-    inside_carry u Prune s = refl
-    inside_carry u (Break b) s = refl
+    inside_carry u c s = grind (arith, scan_carry u (G.neighbors u) s)
 
   close_carry : (u : ℕ) (s : State S B) → close U u (carry s) ≡ carry (close V u s)
-  close_carry u s = by s.stop
-    where
-      by : (o : Option B) → unless_ended o (carry s) (finish U u (carry s)) ≡ carry (unless_ended o s (finish V u s))
-      by None = report_carry (Finish u s.time) (stamp V u Done s)
-      by (Some b) = refl
+  close_carry u s = grind (arith, report_carry (Finish u s.time) (stamp V u Done s))
 
   open_carry : (f : ℕ) → Alike (opening V G f) (opening U G f)
   unfolding opening
@@ -68,15 +55,8 @@ module _ {S T B : Type 0} (V : Visitor S B) (U : Visitor T B) (h : S → T) (rep
   unfolding starts
   starts_carry [] s = refl
   starts_carry (u ∷ us) s =
-      ap (starts U G G.size us) (by s.stop (s.mark u))
+      ap (starts U G G.size us) (grind (arith, open_carry G.size u s))
       ∙ starts_carry us (unless_ended s.stop s (start_marked V G G.size u (s.mark u) s))
-    where
-      by : (o : Option B) (m : Mark)
-          → unless_ended o (carry s) (start_marked U G G.size u m (carry s)) ≡ carry (unless_ended o s (start_marked V G G.size u m s))
-      by None New = open_carry G.size u s
-      by None Open = refl
-      by None Done = refl
-      by (Some b) m = refl
 
   pub same_stop : (us : List ℕ) (x : S) → (walk U G us (h x)).stop ≡ (walk V G us x).stop
   same_stop us x = ap (λ s. s.stop) (starts_carry us (begin V x))

@@ -1,5 +1,5 @@
 -- The law of the spans.
-use Rattle.std.proofs.Common.{◌≡◌, ℕ, suc, ◌<◌, ◌≢◌, ◌⊎◌, List, ◌∷◌, sym, refl, ap, ◌∙◌, inl, inr, ⊎_elim, arith}
+use Rattle.std.proofs.Common.{◌≡◌, ℕ, suc, ◌<◌, ◌≢◌, ◌⊎◌, List, ◌∷◌, refl, ap, ◌∙◌, inl, inr, ⊎_elim, arith}
 use Rattle.std.proofs.lemmas.Bool.{cases_eq, cases_order}
 use Rattle.graph.specs.Meaning.{Sound, Meaning}
 use Rattle.walk.specs.declared.event.Control.{Control}
@@ -59,8 +59,8 @@ module _ (passes : Mark → Type 0) (u : ℕ) (m : Mark) (f : ℕ → Mark) (t :
           | inr n ↦ let h = b.has x (rw (mark_as_other u m f x n) at q) in (h.0, inr h.1)
         ];
     told = told;
-    one = one;
-    same = same;
+    one = λ x d e h k. grind (arith, b.one x d e, fresh x d, fresh x e);
+    same = λ x y d h k. grind (arith, b.same x y d, b.told x d, b.told y d);
   }
     where
       fresh : (x d : ℕ) → D x d → x ≡ u → ⊥
@@ -69,18 +69,6 @@ module _ (passes : Mark → Type 0) (u : ℕ) (m : Mark) (f : ℕ → Mark) (t :
       told : (x d : ℕ) → ((x ≡ u) × (d ≡ t)) ⊎ D x d → passes (mark_as u m f x) × (d < suc t)
       told x d (inl e) = (rw (e.0, mark_as_same u m f) p, omega arith)
       told x d (inr h) = let k = b.told x d h in (rw (mark_as_other u m f x (fresh x d h)) k.0, omega arith)
-
-      one : (x d e : ℕ) → ((x ≡ u) × (d ≡ t)) ⊎ D x d → ((x ≡ u) × (e ≡ t)) ⊎ D x e → d ≡ e
-      one x d e (inl h) (inl k) = omega arith
-      one x d e (inl h) (inr k) = absurd (fresh x e k h.0)
-      one x d e (inr h) (inl k) = absurd (fresh x d h k.0)
-      one x d e (inr h) (inr k) = b.one x d e h k
-
-      same : (x y d : ℕ) → ((x ≡ u) × (d ≡ t)) ⊎ D x d → ((y ≡ u) × (d ≡ t)) ⊎ D y d → x ≡ y
-      same x y d (inl h) (inl k) = omega arith
-      same x y d (inl h) (inr k) = let z = b.told y d k in omega arith
-      same x y d (inr h) (inl k) = let z = b.told x d h in omega arith
-      same x y d (inr h) (inr k) = b.same x y d h k
 
 module _ {S B : Type 0} (V : Visitor S B) (G : Meaning) where
   abbrev said : DfsEvent → State S B → Report B
@@ -109,12 +97,8 @@ module _ {S B : Type 0} (V : Visitor S B) (G : Meaning) where
     fin =
         numbering_map (λ x d h. inr h) (λ x d h. not_left (λ z. z) h)
         (numbering_kept (λ m. m ≡ Done) u Open s.mark s.time (Finished s.log) b.fin (λ p. cc) (λ p. absurd cc));
-    after = after;
+    after = λ x d f h k. grind (arith, b.after x d f, b.fin.told x f);
   }
-    where
-      after : (x d f : ℕ) → ((x ≡ u) × (d ≡ s.time)) ⊎ Discovered s.log x d → ⊥ ⊎ Finished s.log x f → d < f
-      after x d f (inl p) k = absurd (let z = (b.fin.told x f (not_left (λ z. z) k)).0 in let w = ap s.mark p.0 in cc)
-      after x d f (inr h) k = b.after x d f h (not_left (λ z. z) k)
 
   base_close : (u : ℕ) (s : State S B) → s.mark u ≡ Open → Base s → Base (finish V u s)
   base_close u s m b = record {
@@ -122,12 +106,8 @@ module _ {S B : Type 0} (V : Visitor S B) (G : Meaning) where
         numbering_map (λ x d h. inr h) (λ x d h. not_left (λ z. z) h)
         (numbering_kept Seen u Done s.mark s.time (Discovered s.log) b.disc (λ p. tt) (λ p. rw m tt));
     fin = numbering_more (λ m. m ≡ Done) u Done s.mark s.time (Finished s.log) b.fin (λ p. cc) refl;
-    after = after;
+    after = λ x d f h k. grind (arith, b.after x d f, b.disc.told x d);
   }
-    where
-      after : (x d f : ℕ) → ⊥ ⊎ Discovered s.log x d → ((x ≡ u) × (f ≡ s.time)) ⊎ Finished s.log x f → d < f
-      after x d f h (inl p) = let a = (b.disc.told x d (not_left (λ z. z) h)).1 in omega arith
-      after x d f h (inr k) = b.after x d f (not_left (λ z. z) h) k
 
   ended : (s : State S B) → Base s → (x : ℕ) → s.mark x ≡ Done → (f : ℕ) × Finished s.log x f × (f < s.time)
   ended s b x e = let h = b.fin.has x e in (h.0, h.1, (b.fin.told x h.0 h.1).1)
@@ -304,9 +284,7 @@ module _ {S B : Type 0} (V : Visitor S B) (G : Meaning) where
   Q u vs s s' = Inv s → Top u s → Keeps s s'
 
   was_open : (a b : Mark) → (Seen a → b ≡ a) × (a ≡ New → b ≡ Open → ⊥) → b ≡ Open → a ≡ Open
-  was_open New b x o = absurd (x.1 refl o)
-  was_open Open b x o = refl
-  was_open Done b x o = sym (x.0 tt) ∙ o
+  was_open a b x o = grind arith
 
   -- the top stays the top
   top_on : (u : ℕ) (s s' : State S B) → Top u s → Steady s.mark s'.mark → Ext s.log s'.log → Top u s'
