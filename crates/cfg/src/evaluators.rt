@@ -2,6 +2,7 @@
 ghost use Rattle.cfg.specs.Evaluators.{same_kind, of_node};
 
 use crate::loop_query::EvalConstCondition;
+use graph::among::is_among;
 use kinds::block::{Instruction, InstructionKind, NodeId};
 
 // Finds the instructions of one kind true.
@@ -30,6 +31,6 @@ impl<'a> EvalConstCondition for TrueNodes<'a> {
     fn eval(&self, instruction: Instruction) -> bool {
         instruction
             .node_id
-            .is_some_and(|node| self.nodes.contains(&node))
+            .is_some_and(|node| is_among(node, self.nodes))
     }
 }

@@ -1,4 +1,5 @@
 // The graph interface.
 #![tactic(auto)]
 
+pub mod among;
 pub mod graph;

@@ -4,6 +4,7 @@ ghost use Rattle.walk.specs.declared.event.Control.TheVariants.{Continue, Prune,
 ghost use Rattle.graph.specs.Among.{among};
 
 use crate::filter::Filter;
+use graph::among::is_among;
 use walk::event::Control;
 
 // Lets every block pass.
@@ -28,7 +29,7 @@ impl<'a> Filter for ClosedBlocks<'a> {
     ghost meaning = { λ f b. (if among b f.blocks.now then Prune else Continue) };
 
     fn filter(&self, block: u32) -> Control<bool> {
-        if self.blocks.contains(&block) {
+        if is_among(block, self.blocks) {
             Control::Prune
         } else {
             Control::Continue
@@ -46,7 +47,7 @@ impl<'a> Filter for Border<'a> {
     ghost meaning = { λ f b. (if among b f.blocks.now then Break false else Continue) };
 
     fn filter(&self, block: u32) -> Control<bool> {
-        if self.blocks.contains(&block) {
+        if is_among(block, self.blocks) {
             Control::Break(false)
         } else {
             Control::Continue

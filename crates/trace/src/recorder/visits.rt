@@ -4,6 +4,7 @@ ghost use Rattle.trace.specs.Recording.{noted, orders_of, recording};
 ghost use Rattle.trace.specs.Trace.{pruned, reply_to};
 
 use crate::recorder::Recorder;
+use graph::among::is_among;
 use visit::visitor::Visitor;
 use walk::event::{Control, DfsEvent};
 
@@ -13,8 +14,8 @@ impl<'a, 'b, 'c> Recorder<'a, 'b, 'c> {
         ensures { result ≡ pruned (orders_of self.now) event }
     {
         match event {
-            DfsEvent::Discover(u, _) => self.options.prune_at.contains(&u),
-            DfsEvent::TreeEdge(_, v) => self.options.prune_into.contains(&v),
+            DfsEvent::Discover(u, _) => is_among(u, self.options.prune_at),
+            DfsEvent::TreeEdge(_, v) => is_among(v, self.options.prune_into),
             _ => false,
         }
     }
