@@ -35,7 +35,9 @@ impl<'a, 'b, 'c> Recorder<'a, 'b, 'c> {
     fn note(&mut self, event: DfsEvent)
         ensures { self.new ≡ noted self.old event }
     {
-        self.until = self.until.map(|events| events.saturating_sub(1));
+        if let Some(events) = &mut self.until {
+            *events = events.saturating_sub(1);
+        }
         if self.used < self.log.len() {
             self.log[self.used] = event;
             self.used += 1;
