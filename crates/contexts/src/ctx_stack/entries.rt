@@ -9,19 +9,19 @@ use crate::ctx::{Top, WaitingEntry};
 use blocks::block_graph::BlockGraph;
 use kinds::edge::EdgeType;
 
-// How many entries of the context have a target, and how many have none.
+// How many entries of the context have a target, and how many have none, counted in one pass.
 pub(super) fn counts(waiting: &[WaitingEntry], top: Top) -> (usize, usize)
     ensures drawn { result.0 ≡ count_by (draws top.number top.ctx) waiting.now }
     ensures untargeted { result.1 ≡ count_by (lacks top.number top.ctx) waiting.now }
 {
-    let drawn = waiting
-        .iter()
-        .filter(|entry| entry.context == top.number && top.ctx.target(entry.kind).is_some())
-        .count();
-    let untargeted = waiting
-        .iter()
-        .filter(|entry| entry.context == top.number && top.ctx.target(entry.kind).is_none())
-        .count();
+    let mut drawn = 0;
+    let mut untargeted = 0;
+    for entry in waiting {
+        let waits = entry.context == top.number;
+        let has_target = top.ctx.target(entry.kind).is_some();
+        drawn += usize::from(waits && has_target);
+        untargeted += usize::from(waits && !has_target);
+    }
     (drawn, untargeted)
 }
 
