@@ -14,8 +14,14 @@ pub fn read_call(line: &str) -> Option<Call>
     ensures { result ≡ call_of (words line.now) }
 {
     let command = Command::new(line);
-    read_block_call(command)
-        .or(read_instruction_call(command))
-        .or(read_context_call(command))
-        .or(read_entry_call(command))
+    if let Some(call) = read_block_call(command) {
+        return Some(call);
+    }
+    if let Some(call) = read_instruction_call(command) {
+        return Some(call);
+    }
+    if let Some(call) = read_context_call(command) {
+        return Some(call);
+    }
+    read_entry_call(command)
 }
