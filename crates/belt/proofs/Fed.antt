@@ -1,8 +1,11 @@
--- How many segments a word lists: its ones.
-use Rattle.std.proofs.Common.{◌≡◌, ℕ, zero, suc, ◌+◌, ◌/◌, ◌%◌, ◌^◌, ◌<◌, List, length, sym, refl, ap, ◌∙◌, pow-suc, arith}
+-- How many segments a word lists: its ones, and none where it is 0.
+use Rattle.std.proofs.Common.{◌≡◌, ℕ, zero, suc, ◌+◌, ◌/◌, ◌%◌, ◌^◌, ◌<◌, true, false, ltb, List, length, sym, refl, ap, ◌∙◌, pow-suc, arith}
 use lib.Count.{ones, ones_step}
+use Rattle.std.proofs.lemmas.Bool.{lt-ltb}
 use Rattle.belt.specs.Words.{with_bit, segments_from, segments}
 use Rattle.belt.specs.Counts.{fed}
+use Rattle.belt.specs.Soundness.{segments_none}
+use Rattle.belt.proofs.Listing.{segments_next}
 
 length_with : (b s : ℕ) (l : List ℕ) → b < 2 → length (with_bit b s l) ≡ b + length l
 length_with zero s l h = omega arith
@@ -22,3 +25,9 @@ length_from (suc k) s p h =
 pub fed_ones : (p : ℕ) → p < 2 ^ 64 → fed p ≡ ones p
 unfolding segments
 fed_ones p h = length_from 64 0 p h
+
+pub feeds : (p : ℕ) → p < 2 ^ 64 → (p ≡ 0 → ⊥) → ltb 0 (fed p) ≡ true
+feeds p h n = ap (λ l. ltb 0 (length l)) (segments_next p (omega arith) h) ∙ lt-ltb 0 _ (omega arith)
+
+pub feeds_not : (p : ℕ) → p ≡ 0 → ltb 0 (fed p) ≡ false
+feeds_not p e = ap (λ q. ltb 0 (fed q)) e ∙ ap (λ l. ltb 0 (length l)) segments_none

@@ -50,8 +50,13 @@ impl BeltPlan {
     pub fn feeding_count(&self) -> u32
         ensures { result ≡ feeding self.now.rows }
     {
-        let feeding = self.rows.iter().filter(|row| Segments::of(**row).len() > 0);
-        feeding.count() as u32
+        let mut feeding = 0;
+        for row in self.rows {
+            if row != 0 {
+                feeding += 1;
+            }
+        }
+        feeding
     }
 
     // How many transfers the plan has. O(n).
