@@ -1,4 +1,7 @@
 // Blocks by their numbers, and the kinds of instructions in them.
+ghost use Rattle.std.specs.Prelude.{◌≡◌};
+ghost use Rattle.kinds.specs.Instructions.{kind_number};
+
 // The number of a block, from 0 in the order of making.
 pub type BlockNodeId = u32;
 
@@ -53,6 +56,29 @@ pub enum InstructionKind {
     Condition,
     // a turn of a loop over elements or keys
     Iteration(IterationInstructionKind),
+}
+
+impl InstructionKind {
+    // The number of the kind, from 1 on; different kinds have different numbers. O(1).
+    pub fn number(self) -> u32
+        ensures { result ≡ kind_number self }
+    {
+        match self {
+            InstructionKind::Unreachable => 1,
+            InstructionKind::Statement => 2,
+            InstructionKind::ImplicitReturn => 3,
+            InstructionKind::Return(ReturnInstructionKind::ImplicitUndefined) => 4,
+            InstructionKind::Return(ReturnInstructionKind::NotImplicitUndefined) => 5,
+            InstructionKind::Break(LabeledInstruction::Labeled) => 6,
+            InstructionKind::Break(LabeledInstruction::Unlabeled) => 7,
+            InstructionKind::Continue(LabeledInstruction::Labeled) => 8,
+            InstructionKind::Continue(LabeledInstruction::Unlabeled) => 9,
+            InstructionKind::Throw => 10,
+            InstructionKind::Condition => 11,
+            InstructionKind::Iteration(IterationInstructionKind::Of) => 12,
+            InstructionKind::Iteration(IterationInstructionKind::In) => 13,
+        }
+    }
 }
 
 // An instruction, and the syntax node that it comes from, if it comes from one.
